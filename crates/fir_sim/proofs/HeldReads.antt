@@ -7,9 +7,7 @@ use Rattle.fir_bits.specs.declared.values.Num.{Num}
 use Rattle.fir_net.specs.declared.reads.Read.{Read}
 use Rattle.fir_net.specs.declared.reads.Read.TheVariants as read
 use Rattle.fir_net.specs.declared.node.Node.{Node}
-use Rattle.fir_net.specs.declared.node.Node.TheVariants as node
 use Rattle.fir_net.specs.declared.net.FlatNet.{FlatNet}
-use Rattle.fir_net.specs.working.Values.{node_value, values}
 use Rattle.fir_net.specs.working.IsNet.{CanRead, IsNet}
 use Rattle.fir_net.specs.working.Laws.{NodesHaveTheirValues}
 use Rattle.fir_net.specs.working.Settled.{value_at}

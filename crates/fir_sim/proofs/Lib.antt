@@ -7,3 +7,7 @@ pub mod InTurn
 pub mod Placings
 pub mod PlanFacts
 pub mod PlanPairs
+pub mod Written
+pub mod WritesCan
+pub mod OneArray
+pub mod ArraysTaken

@@ -1,5 +1,5 @@
 -- Numbers in their places: each then stands at its place, and all else is as before.
-use Rattle.std.proofs.Common.{◌≡◌, ℕ, ◌^◌, ◌<◌, ◌≤◌, List, [], ◌∷◌, length, map, set, refl, sym, ap, ◌∙◌, subst, arith, option_map, unwrap_or, length-set}
+use Rattle.std.proofs.Common.{◌≡◌, ℕ, ◌^◌, ◌<◌, List, [], ◌∷◌, length, map, set, take, refl, sym, ap, ◌∙◌, subst, arith, option_map, unwrap_or, length-set}
 use Rattle.std.specs.Prelude.{slice_get, Option, Some, None}
 use Rattle.std.specs.List.{AllByRecursion}
 use Rattle.fir_base.specs.Ticks.{FitEach}
@@ -43,6 +43,12 @@ placed_here (k ∷ ks) (v ∷ vs) ns once within long =
     let rest = placed_here ks vs (set ns k v) once.1 (subst (λ (n : ℕ). AllByRecursion (λ j. j < n) ks) same within.1) (let e : length ks ≡ length vs = omega arith in e) in
     rw (here, rest) refl
 
+-- only so many as there are places
+pub placed_front : (ks vs ns : List ℕ) → placed ks vs ns ≡ placed ks (take (length ks) vs) ns
+placed_front [] vs ns = refl
+placed_front (k ∷ ks) [] ns = refl
+placed_front (k ∷ ks) (v ∷ vs) ns = placed_front ks vs (set ns k v)
+
 -- what stands apart is as before
 pub placed_elsewhere : (ks vs ns others : List ℕ) → AllByRecursion (λ k. Apart k ks) others → map (number_at (placed ks vs ns)) others ≡ map (number_at ns) others
 placed_elsewhere ks vs ns [] h = refl
@@ -85,12 +91,6 @@ values_widths [] [] h = refl
 values_widths [] (n ∷ ns) h = absurd h
 values_widths (w ∷ ws) [] h = absurd h
 values_widths (w ∷ ws) (n ∷ ns) h = ap (λ r. w ∷ r) (values_widths ws ns h.1)
-
-pub values_whole : (ws ns : List ℕ) → FitEach ws ns → AllByRecursion (λ w. w ≤ 128) ws → AllByRecursion IsBitVector (values_of ws ns)
-values_whole [] [] h narrow = tt
-values_whole [] (n ∷ ns) h narrow = absurd h
-values_whole (w ∷ ws) [] h narrow = absurd h
-values_whole (w ∷ ws) (n ∷ ns) h narrow = (record { narrow = narrow.0; below = h.0 }, values_whole ws ns h.1 narrow.1)
 
 -- values of a list's widths fit it
 pub whole_fit : (vs : List BitVector) → AllByRecursion IsBitVector vs → FitEach (widths vs) (numbers vs)

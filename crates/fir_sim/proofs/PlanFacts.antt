@@ -22,7 +22,7 @@ use Rattle.fir_tick.specs.declared.plan.Plan.{Plan}
 use Rattle.fir_work.specs.working.Held.{IsHeld}
 use Rattle.fir_tick.specs.working.Views.{output_widths}
 use Rattle.fir_tick.specs.working.Plans.{IsPlan, IsRegisterPlan}
-use Rattle.fir_tick.specs.working.Passes.{input_leaf, input_width, output_width, register_leaf, register_width, IsWithin, IsPlaced, IsShown, IsNarrowOutput, IsNarrowRegister}
+use Rattle.fir_tick.specs.working.Passes.{input_leaf, input_width, output_width, register_leaf, register_width, IsWithin, IsPlaced, IsShown, IsNarrowOutput}
 use Rattle.fir_work.proofs.HeldNumbers.{place_within}
 use Rattle.fir_tick.proofs.Lists.{pairs_left, pairs_right, pairs_same}
 use Rattle.fir_sim.proofs.Placings.{Apart}
@@ -54,8 +54,8 @@ module _ (net : FlatNet) (whole : IsNet net) (p : Plan) (plan : IsPlan net p) wh
   pub shown_widths : map output_width p.outputs.items ≡ output_widths net
   shown_widths = pairs_same (IsOutput net) output_width (leaf_width net.leaves) (λ q k i. sym (width_at net.leaves k i.leaf i.at ∙ i.width)) p.outputs.items (outputs net) output_pairs
 
-  pub state_widths : map register_width p.registers.items ≡ (shape net).state
-  state_widths = pairs_same (IsRegisterPlan net plan.roots) register_width (leaf_width net.leaves) (λ q k i. sym (width_at net.leaves k i.leaf i.at ∙ i.width)) p.registers.items (registers net) register_pairs
+  pub register_widths : map register_width p.registers.items ≡ map (leaf_width net.leaves) (registers net)
+  register_widths = pairs_same (IsRegisterPlan net plan.roots) register_width (leaf_width net.leaves) (λ q k i. sym (width_at net.leaves k i.leaf i.at ∙ i.width)) p.registers.items (registers net) register_pairs
 
   -- what the passes ask
   module _ (ns : List ℕ) (held : IsHeld net ns) where
@@ -82,9 +82,6 @@ module _ (net : FlatNet) (whole : IsNet net) (p : Plan) (plan : IsPlan net p) wh
 
   pub outputs_narrow : AllByRecursion IsNarrowOutput p.outputs.items
   outputs_narrow = pairs_left (IsOutput net) IsNarrowOutput (λ q k i. i.narrow) p.outputs.items (outputs net) output_pairs
-
-  pub registers_narrow : AllByRecursion IsNarrowRegister p.registers.items
-  registers_narrow = pairs_left (IsRegisterPlan net plan.roots) IsNarrowRegister (λ q k i. i.narrow) p.registers.items (registers net) register_pairs
 
   -- leaves of the net
   pub input_leaves_there : AllByRecursion (λ k. k < length net.leaves) (inputs net)

@@ -1,13 +1,15 @@
 -- Held numbers that are settled are settled values of the net.
-use Rattle.std.proofs.Common.{◌≡◌, ℕ, List, [], ◌∷◌, map, refl, sym, ap, ◌∙◌, Bool, if◌then◌else◌, option_map, unwrap_or}
+use Rattle.std.proofs.Common.{◌≡◌, ℕ, List, [], ◌∷◌, length, map, take, refl, sym, ap, ◌∙◌, Bool, false, nat_lt, ◌&&◌, if◌then◌else◌, option_map, unwrap_or}
 use Rattle.std.specs.Prelude.{slice_get, Option, Some, None}
 use Rattle.std.specs.List.{AllByRecursion}
+use Rattle.std.proofs.lemmas.List.{get_or-take}
 use Rattle.std.proofs.lemmas.Option.{slice_get_within}
 use Rattle.fir_base.specs.Ticks.{Tick, FitEach}
 use Rattle.fir_bits.specs.working.Laws.{HasItsType}
 use Rattle.fir_bits.specs.working.Operators.{type_of}
 use Rattle.fir_bits.specs.declared.types.NumTy.{NumTy}
 use Rattle.fir_bits.specs.declared.values.Num.{Num}
+use Rattle.fir_net.specs.declared.array.ArrayRead.{ArrayRead}
 use Rattle.fir_net.specs.declared.reads.Read.{Read}
 use Rattle.fir_net.specs.declared.reads.Read.TheVariants as read
 use Rattle.fir_net.specs.declared.leaf.ResetKind.{ResetKind}
@@ -18,18 +20,19 @@ use Rattle.fir_net.specs.declared.leaf.Role.TheVariants as role
 use Rattle.fir_net.specs.declared.leaf.Leaf.{Leaf}
 use Rattle.fir_net.specs.declared.node.Node.{Node}
 use Rattle.fir_net.specs.declared.net.FlatNet.{FlatNet}
+use Rattle.fir_net.specs.working.Arrays.{begin_of, word_in, words_of}
 use Rattle.fir_net.specs.working.Values.{at_width, number_of}
-use Rattle.fir_net.specs.working.IsNet.{node_type, CanRead, CanBeReset, IsNet}
+use Rattle.fir_net.specs.working.IsNet.{node_type, CanRead, CanBeReset, IsNet, IsRole}
 use Rattle.fir_bits.specs.Forms.{no_type}
 use Rattle.fir_net.specs.working.Laws.{NodesHaveTheirTypes, NodesHaveTheirValues}
-use Rattle.fir_net.specs.working.Settled.{value_at, driver, shown_by, shown, is_high, inputs, registers, shape, Settled}
+use Rattle.fir_net.specs.working.Settled.{value_at, driver, shown_by, shown, is_high, word_read, inputs, registers, shape, Settled}
 use Rattle.fir_net.proofs.Places.{value_at_place}
 use Rattle.fir_net.proofs.LeafEquations.{driven_at}
 use Rattle.fir_work.specs.working.Numbers.{number_at, type_read, value_in}
 use Rattle.fir_work.specs.working.NodeValues.{held_node, held_node_at}
 use Rattle.fir_tick.specs.working.Views.{IsTickOf}
-use Rattle.fir_tick.specs.working.Plans.{root_at, AreRoots}
-use Rattle.fir_tick.specs.working.Settling.{is_one, held_under, held_register, held_role, held_leaf_at, IsSettled}
+use Rattle.fir_tick.specs.working.Roots.{root_at, AreRoots}
+use Rattle.fir_tick.specs.working.Settling.{is_one, held_under, held_register, held_word, held_role, held_leaf_at, IsSettled}
 use Rattle.fir_tick.specs.declared.plan.InputPlan.{InputPlan}
 use Rattle.fir_tick.proofs.Lists.{pairs_right}
 use Rattle.fir_sim.proofs.PlanPairs.{IsInput, inputs_paired}
@@ -45,7 +48,7 @@ map_same f g (x ∷ xs) h = let first = h.0 in let rest = map_same f g xs h.1 in
 of_its_type : (t : NumTy) (v : Num) → type_of v ≡ t → number_of t v.value.number ≡ v
 of_its_type t v e = sym (ap (λ (u : NumTy). number_of u v.value.number) e)
 
-module _ (has : HasItsType) (types : NodesHaveTheirTypes) (law : NodesHaveTheirValues) (net : FlatNet) (whole : IsNet net) (start ns : List ℕ) (s : IsSettled net start ns) where
+module _ (has : HasItsType) (types : NodesHaveTheirTypes) (law : NodesHaveTheirValues) (net : FlatNet) (whole : IsNet net) (state start ns : List ℕ) (s : IsSettled net state start ns) where
   abbrev pub value : Read → Num
   value = value_in net ns
 
@@ -78,9 +81,18 @@ module _ (has : HasItsType) (types : NodesHaveTheirTypes) (law : NodesHaveTheirV
   register_shown w signed None now can = refl
   register_shown w signed (Some r) now can = under_shown w r.kind r.condition r.init now can.condition can.init.can
 
+  -- what is read of an array
+  word_is : (a b : Num) (n : ℕ) (e f : Bool) (o : Option ℕ) → a ≡ b → e ≡ f
+      → (if e && nat_lt a.value.number n then word_in state o a.value.number else 0) ≡ (if f && nat_lt b.value.number n then word_in state o b.value.number else 0)
+  word_is a b n e f o p q = rw (p, q) refl
+
+  same_word : (w : ℕ) (r : ArrayRead) → IsRole net.leaves net.nodes false w (role.Reading r) → held_word net state value r ≡ word_read net state env r
+  same_word w r is =
+      word_is (value r.address) (value_at net env r.address) (words_of net.arrays r.array) (is_one (value r.enable)) (is_high net env r.enable) (begin_of net r.array) (same_read r.address is.address) (same_high r.enable is.enable)
+
   -- each leaf has what its role gives it
-  leaf_is : (k : ℕ) (l : Leaf) (r : Role) → slice_get net.leaves k ≡ Some l → l.role ≡ r → env k ≡ held_role value l.width (number_at start k) r
-  leaf_is k l r at is = s.meets (read.Leaf k) (slice_get_within net.leaves k l at) ∙ ap (held_leaf_at value (number_at start k)) at ∙ ap (held_role value l.width (number_at start k)) is
+  leaf_is : (k : ℕ) (l : Leaf) (r : Role) → slice_get net.leaves k ≡ Some l → l.role ≡ r → env k ≡ held_role net state value l.width (number_at start k) r
+  leaf_is k l r at is = s.meets (read.Leaf k) (slice_get_within net.leaves k l at) ∙ ap (held_leaf_at net state value (number_at start k)) at ∙ ap (held_role net state value l.width (number_at start k)) is
 
   input_kept : (p : InputPlan) (k : ℕ) → IsInput net p k → env k ≡ number_at start k
   input_kept p k i = leaf_is k i.leaf role.Input i.at i.kind
@@ -91,18 +103,21 @@ module _ (has : HasItsType) (types : NodesHaveTheirTypes) (law : NodesHaveTheirV
   role_driven k l (role.Output q) r at is e = let same : q ≡ r = cc in leaf_is k l (role.Output q) at is ∙ same_fitted l.width q (driven_at net whole k l (role.Output q) at is).can ∙ ap (λ (p : Read). at_width (value_at net env p) l.width) same
   role_driven k l (role.Wire q) r at is e = let same : q ≡ r = cc in leaf_is k l (role.Wire q) at is ∙ same_fitted l.width q (driven_at net whole k l (role.Wire q) at is).can ∙ ap (λ (p : Read). at_width (value_at net env p) l.width) same
   role_driven k l (role.Register d) r at is e = cc
+  role_driven k l (role.Reading a) r at is e = cc
   role_driven k l (role.ClockOutput c) r at is e = cc
   role_driven k l (role.ClockWire c) r at is e = cc
 
-  pub settles : (roots : List (Option ℕ)) → AreRoots net roots → (state : List ℕ) (tick : Tick) → IsTickOf net tick → FitEach (shape net).state state → map (number_at start) (inputs net) ≡ tick.inputs → map (number_at start) (registers net) ≡ state
+  pub settles : (roots : List (Option ℕ)) → AreRoots net roots → (tick : Tick) → IsTickOf net tick → FitEach (shape net).state state → map (number_at start) (inputs net) ≡ tick.inputs → map (number_at start) (registers net) ≡ take (length (registers net)) state
       → Settled net state tick env (root_at roots)
-  settles roots are state tick is state_fits given kept = record {
+  settles roots are tick is state_fits given kept = record {
     shaped = record { inputs_fit = is.inputs; clocks_rise = is.clocks; state_fits = state_fits };
     fits = (leaves_fit net ns s.held).each;
     input_values = map_same env (number_at start) (inputs net) (pairs_right (IsInput net) (λ k. env k ≡ number_at start k) input_kept _ (inputs net) (inputs_paired net whole)) ∙ given;
     registers_show = λ n k l d e at is_d.
         leaf_is k l (role.Register d) at is_d ∙ register_shown l.width l.signed d.reset (number_at start k) (driven_at net whole k l (role.Register d) at is_d).1
-        ∙ ap (shown net env l.width d.reset) (value_at_place (number_at start) (registers net) state kept n k e);
+        ∙ ap (shown net env l.width d.reset)
+        (value_at_place (number_at start) (registers net) (take (length (registers net)) state) kept n k e ∙ get_or-take (length (registers net)) state n 0 (slice_get_within (registers net) n k e));
+    arrays_read = λ k l r at is_r. leaf_is k l (role.Reading r) at is_r ∙ same_word l.width r (driven_at net whole k l (role.Reading r) at is_r);
     driven = λ k l r at e. role_driven k l l.role r at refl e;
     clock_inputs = are.inputs;
     clocks_driven = are.driven;

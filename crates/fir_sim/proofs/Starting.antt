@@ -10,27 +10,22 @@ use Rattle.fir_net.specs.working.IsNet.{IsNet}
 use Rattle.fir_net.specs.working.Settled.{shape}
 use Rattle.fir_tick.specs.declared.plan.Plan.{Plan}
 use Rattle.fir_tick.specs.declared.plan.OutputPlan.{OutputPlan}
-use Rattle.fir_tick.specs.declared.plan.RegisterPlan.{RegisterPlan}
 use Rattle.fir_tick.specs.declared.steps.Step.{Step}
 use Rattle.fir_tick.specs.declared.values.Values.{Values}
 use Rattle.fir_work.specs.working.Held.{IsHeld}
 use Rattle.fir_tick.specs.working.Views.{numbers, widths, output_widths}
 use Rattle.fir_tick.specs.working.Plans.{IsPlan}
 use Rattle.fir_tick.specs.working.Steps.{IsStepped}
-use Rattle.fir_tick.specs.working.Passes.{zero_of, output_zero, output_width, register_width, values_of, IsNarrowOutput, IsNarrowRegister}
+use Rattle.fir_tick.specs.working.Passes.{zero_of, output_zero, output_width, values_of, IsNarrowOutput}
 use Rattle.fir_sim.specs.working.Running.{IsRunning}
 use Rattle.fir_work.proofs.HeldNumbers.{zeros_held}
 use Rattle.fir_tick.proofs.Lists.{all_map}
-use Rattle.fir_sim.proofs.Placings.{values_numbers, values_widths, values_whole}
-use Rattle.fir_sim.proofs.PlanFacts.{shown_widths, state_widths, outputs_narrow, registers_narrow}
+use Rattle.fir_sim.proofs.Placings.{values_numbers, values_widths}
+use Rattle.fir_sim.proofs.PlanFacts.{shown_widths, outputs_narrow}
 use Rattle.fir_sim.proofs.Ticking.{widths_of}
 
 zero_whole : (w : ℕ) → w ≤ 128 → IsBitVector (zero_of w)
 zero_whole w narrow = record { narrow = narrow; below = pow_pos w }
-
-narrow_words : (ps : List RegisterPlan) → AllByRecursion IsNarrowRegister ps → AllByRecursion (λ w. w ≤ 128) (map register_width ps)
-narrow_words [] h = tt
-narrow_words (q ∷ ps) h = (h.0, narrow_words ps h.1)
 
 zero_numbers : (ps : List OutputPlan) → numbers (map output_zero ps) ≡ replicate (length (map output_width ps)) 0
 zero_numbers [] = refl
@@ -47,33 +42,20 @@ module _ (net : FlatNet) (whole : IsNet net) where
   outputs_are_zeros p plan vs shown =
       ap numbers shown ∙ zero_numbers p.outputs.items ∙ ap (λ (ws : List ℕ). replicate (length ws) 0) (shown_widths net whole p plan)
 
-  module _ (p : Plan) (plan : IsPlan net p) (ns : List ℕ) (fit : FitEach (shape net).state ns) where
-    pub fit_registers : FitEach (map register_width p.registers.items) ns
-    fit_registers = subst (λ (ws : List ℕ). FitEach ws ns) (sym (state_widths net whole p plan)) fit
+  module _ (ns : List ℕ) (fit : FitEach (shape net).state ns) (v : Values) (state : v.state.items ≡ values_of (shape net).state ns) where
+    pub state_is : numbers v.state.items ≡ ns
+    state_is = ap numbers state ∙ values_numbers (shape net).state ns fit
 
-    abbrev words : List BitVector
-    words = values_of (map register_width p.registers.items) ns
-
-    words_wide : widths words ≡ (shape net).state
-    words_wide = values_widths (map register_width p.registers.items) ns fit_registers ∙ state_widths net whole p plan
-
-    words_whole : AllByRecursion IsBitVector words
-    words_whole = values_whole (map register_width p.registers.items) ns fit_registers (narrow_words p.registers.items (registers_narrow net whole p plan))
-
-    module _ (v : Values) (state : v.state.items ≡ words) where
-      pub state_is : numbers v.state.items ≡ ns
-      state_is = ap numbers state ∙ values_numbers (map register_width p.registers.items) ns fit_registers
-
-      pub starts : (steps : List Step) → IsStepped net steps → v.numbers.items ≡ replicate (length net.leaves + length net.nodes) 0 → v.outputs.items ≡ map output_zero p.outputs.items → IsRunning net steps p v
-      starts steps stepped zeros outputs = record {
-        whole = whole;
-        stepped = stepped;
-        view = record {
-          outputs = ap widths outputs ∙ widths_of output_zero p.outputs.items ∙ shown_widths net whole p plan;
-          outputs_are = subst (AllByRecursion IsBitVector) (sym outputs) (zeros_whole p plan);
-          state = ap widths state ∙ words_wide;
-          state_is = subst (AllByRecursion IsBitVector) (sym state) words_whole;
-        };
-        plan = plan;
-        held = subst (IsHeld net) (sym zeros) (zeros_held net);
-      }
+    pub starts : (p : Plan) → IsPlan net p → AllByRecursion IsBitVector v.state.items → (steps : List Step) → IsStepped net steps → v.numbers.items ≡ replicate (length net.leaves + length net.nodes) 0 → v.outputs.items ≡ map output_zero p.outputs.items → IsRunning net steps p v
+    starts p plan words_whole steps stepped zeros outputs = record {
+      whole = whole;
+      stepped = stepped;
+      view = record {
+        outputs = ap widths outputs ∙ widths_of output_zero p.outputs.items ∙ shown_widths net whole p plan;
+        outputs_are = subst (AllByRecursion IsBitVector) (sym outputs) (zeros_whole p plan);
+        state = ap widths state ∙ values_widths (shape net).state ns fit;
+        state_is = words_whole;
+      };
+      plan = plan;
+      held = subst (IsHeld net) (sym zeros) (zeros_held net);
+    }

@@ -1,17 +1,21 @@
 -- What the passes of a tick leave, one behind the other: the values that a net allows, and what the simulator keeps.
-use Rattle.std.proofs.Common.{◌≡◌, ℕ, ◌<◌, ◌≤◌, List, [], ◌∷◌, length, map, refl, sym, ap, ◌∙◌, subst, arith}
+use Rattle.std.proofs.Common.{◌≡◌, ℕ, ◌+◌, ◌<◌, ◌≤◌, List, [], ◌∷◌, ◌++◌, length, map, take, drop, slice_index, Option, refl, sym, ap, ap₂, ◌∙◌, subst, arith, length-append}
 use Rattle.std.specs.List.{AllByRecursion}
-use Rattle.std.proofs.lemmas.List.{length-map}
+use Rattle.std.proofs.Math.Seq.{drop-append_seam}
+use Rattle.std.proofs.lemmas.List.{length-map, length-drop, map-append, drop-map, get_or-drop}
 use Rattle.fir_base.specs.Ticks.{Tick, FitEach}
 use Rattle.fir_base.specs.Lists.{Distinct}
 use Rattle.fir_bits.specs.Values.{BitVector, IsBitVector}
 use Rattle.fir_bits.specs.working.Laws.{HasItsType}
 use Rattle.fir_net.specs.declared.net.FlatNet.{FlatNet}
+use Rattle.fir_net.specs.working.Arrays.{array_widths, begin_from}
+use Rattle.fir_net.specs.working.Next.{next, next_word, words_next}
 use Rattle.fir_net.specs.working.Values.{leaf_width}
 use Rattle.fir_net.specs.working.IsNet.{IsNet}
 use Rattle.fir_net.specs.working.Laws.{NodesHaveTheirTypes, NodesHaveTheirValues}
 use Rattle.fir_net.specs.working.Settled.{clock_outputs, input_number, inputs, registers, shape}
 use Rattle.fir_net.specs.working.Allows.{Allows}
+use Rattle.fir_net.proofs.ArrayWords.{front_fits}
 use Rattle.fir_net.proofs.NumberedLeaves.{inputs_own, distinct_numbers}
 use Rattle.fir_work.specs.working.Numbers.{number_at}
 use Rattle.fir_tick.specs.declared.plan.Plan.{Plan}
@@ -19,16 +23,21 @@ use Rattle.fir_tick.specs.declared.steps.Step.{Step}
 use Rattle.fir_tick.specs.declared.values.Values.{Values}
 use Rattle.fir_work.specs.working.Held.{IsHeld}
 use Rattle.fir_tick.specs.working.Views.{numbers, widths, output_widths, IsTickOf}
-use Rattle.fir_tick.specs.working.Plans.{IsPlan, root_at}
+use Rattle.fir_tick.specs.working.Plans.{IsPlan}
+use Rattle.fir_tick.specs.working.Roots.{root_at}
+use Rattle.fir_tick.specs.working.ArrayWrites.{after_edges}
 use Rattle.fir_tick.specs.working.Passes.{placed, with_inputs, with_state, output_width, register_width, output_value, register_value}
 use Rattle.fir_tick.specs.working.Settling.{IsSettled}
 use Rattle.fir_sim.specs.working.Running.{IsRunning}
 use Rattle.fir_tick.proofs.Fits.{fit_count}
 use Rattle.fir_tick.proofs.Lists.{map_both}
-use Rattle.fir_sim.proofs.Placings.{placed_held, placed_here, placed_elsewhere, inputs_placed, state_placed, whole_fit}
-use Rattle.fir_sim.proofs.PlanFacts.{input_leaves, input_leaves_there, register_leaves, register_leaves_there, shown_widths, state_widths, registers_apart}
+use Rattle.fir_sim.proofs.ArraysTaken.{arrays_put}
+use Rattle.fir_sim.proofs.Placings.{placed_front, placed_held, placed_here, placed_elsewhere, inputs_placed, state_placed, whole_fit}
+use Rattle.fir_sim.proofs.PlanFacts.{input_leaves, input_leaves_there, register_leaves, register_leaves_there, shown_widths, register_widths, registers_apart}
 use Rattle.fir_sim.proofs.SettledValues.{settles}
 use Rattle.fir_sim.proofs.Words.{outputs_shown, words_taken}
+use Rattle.fir_sim.proofs.WritesCan.{writes_keep}
+use Rattle.fir_sim.proofs.Written.{put_all, written_numbers, written_widths}
 
 all_below : (n m : ℕ) (ks : List ℕ) → n ≤ m → AllByRecursion (λ k. k < n) ks → AllByRecursion (λ k. k < m) ks
 all_below n m [] le h = tt
@@ -55,14 +64,21 @@ module _ (net : FlatNet) (whole : IsNet net) (p : Plan) (plan : IsPlan net p) (n
     state_kept = ap (λ (h : List ℕ). map (number_at h) (registers net)) is_placed ∙ placed_elsewhere (inputs net) vs ns (registers net) (registers_apart net whole p plan)
 
   module _ (words : List BitVector) (fit : FitEach (shape net).state (numbers words)) where
-    words_placed : with_state p.registers.items words ns ≡ placed (registers net) (numbers words) ns
-    words_placed = state_placed p.registers.items words ns ∙ ap (λ (ks : List ℕ). placed ks (numbers words) ns) (register_leaves net whole p plan)
+    -- the words of the registers
+    abbrev front : List ℕ
+    front = take (length (registers net)) (numbers words)
+
+    front_fit : FitEach (map (leaf_width net.leaves) (registers net)) front
+    front_fit = front_fits (leaf_width net.leaves) (registers net) (array_widths net) (numbers words) fit
+
+    words_placed : with_state p.registers.items words ns ≡ placed (registers net) front ns
+    words_placed = state_placed p.registers.items words ns ∙ ap (λ (ks : List ℕ). placed ks (numbers words) ns) (register_leaves net whole p plan) ∙ placed_front (registers net) (numbers words) ns
 
     pub words_held : IsHeld net (with_state p.registers.items words ns)
-    words_held = subst (IsHeld net) (sym words_placed) (placed_held net (registers net) (numbers words) ns (register_leaves_there net whole p plan) fit held)
+    words_held = subst (IsHeld net) (sym words_placed) (placed_held net (registers net) front ns (register_leaves_there net whole p plan) front_fit held)
 
-    pub words_given : map (number_at (with_state p.registers.items words ns)) (registers net) ≡ numbers words
-    words_given = ap (λ (h : List ℕ). map (number_at h) (registers net)) words_placed ∙ put_here net ns held (registers net) (numbers words) (register_leaves_there net whole p plan) fit whole.state.once
+    pub words_given : map (number_at (with_state p.registers.items words ns)) (registers net) ≡ front
+    words_given = ap (λ (h : List ℕ). map (number_at h) (registers net)) words_placed ∙ put_here net ns held (registers net) front (register_leaves_there net whole p plan) front_fit whole.state.once
 
 pub numbers_of : {P : Type 0} → (f : P → BitVector) (ps : List P) → numbers (map f ps) ≡ map (λ q. (f q).number) ps
 numbers_of f ps = map_both f (λ v. v.number) ps
@@ -70,13 +86,13 @@ numbers_of f ps = map_both f (λ v. v.number) ps
 pub widths_of : {P : Type 0} → (f : P → BitVector) (ps : List P) → widths (map f ps) ≡ map (λ q. (f q).width) ps
 widths_of f ps = map_both f (λ v. v.width) ps
 
--- a tick: the words and the inputs are put, all is settled, and outputs and words come from it
+-- a tick: the words of registers and the inputs are put, all is settled, and outputs and the words of the next state come from it
 pub record IsTicked (net : FlatNet) (p : Plan) (tick : Tick) (before after : Values) (start : List ℕ) : Type 0 where
   pub put : start ≡ with_inputs p.inputs.items tick.inputs (with_state p.registers.items before.state.items before.numbers.items)
-  pub settled : IsSettled net start after.numbers.items
+  pub settled : IsSettled net (numbers before.state.items) start after.numbers.items
   pub outputs : after.outputs.items ≡ map (output_value after.numbers.items) p.outputs.items
   pub outputs_whole : AllByRecursion IsBitVector after.outputs.items
-  pub state : after.state.items ≡ map (register_value net after.numbers.items tick.clocks) p.registers.items
+  pub state : after.state.items ≡ after_edges net after.numbers.items tick.clocks p before.state.items
   pub state_whole : AllByRecursion IsBitVector after.state.items
 
 -- what is put
@@ -90,8 +106,15 @@ module _ (net : FlatNet) (steps : List Step) (p : Plan) (v : Values) (running : 
   pub outputs_room : length v.outputs.items ≡ length p.outputs.items
   outputs_room = sym (length-map v.outputs.items (λ x. x.width)) ∙ ap length (running.view.outputs ∙ sym (shown_widths net running.whole p running.plan)) ∙ length-map p.outputs.items output_width
 
-  pub state_room : length v.state.items ≡ length p.registers.items
-  state_room = sym (length-map v.state.items (λ x. x.width)) ∙ ap length (running.view.state ∙ sym (state_widths net running.whole p running.plan)) ∙ length-map p.registers.items register_width
+  -- the registers stand in front of the state
+  pub registers_count : length p.registers.items ≡ length (map (leaf_width net.leaves) (registers net))
+  registers_count = sym (length-map p.registers.items register_width) ∙ ap length (register_widths net running.whole p running.plan)
+
+  state_long : length v.state.items ≡ length (map (leaf_width net.leaves) (registers net)) + length (array_widths net)
+  state_long = sym (length-map v.state.items (λ x. x.width)) ∙ ap length running.view.state ∙ length-append (map (leaf_width net.leaves) (registers net)) (array_widths net)
+
+  pub state_room : length p.registers.items ≤ length v.state.items
+  state_room = let count = registers_count in let long = state_long in omega arith
 
   module _ (tick : Tick) (is_tick : IsTickOf net tick) where
     abbrev start : List ℕ
@@ -103,14 +126,33 @@ module _ (net : FlatNet) (steps : List Step) (p : Plan) (v : Values) (running : 
     pub given : map (number_at start) (inputs net) ≡ tick.inputs
     given = inputs_given net running.whole p running.plan (with_state p.registers.items v.state.items v.numbers.items) state_put tick.inputs is_tick.inputs
 
-    pub kept : map (number_at start) (registers net) ≡ numbers v.state.items
+    pub kept : map (number_at start) (registers net) ≡ take (length (registers net)) (numbers v.state.items)
     kept =
         state_kept net running.whole p running.plan (with_state p.registers.items v.state.items v.numbers.items) state_put tick.inputs is_tick.inputs
         ∙ words_given net running.whole p running.plan v.numbers.items running.held v.state.items state_fits
 
 module _ (net : FlatNet) (steps : List Step) (p : Plan) (tick : Tick) (is_tick : IsTickOf net tick) (before after : Values) (start : List ℕ) (running : IsRunning net steps p before) (t : IsTicked net p tick before after start) where
+  abbrev ns : List ℕ
+  ns = after.numbers.items
+
+  abbrev count : ℕ
+  count = length p.registers.items
+
+  -- the words of the state when the registers have theirs
+  abbrev registered : List BitVector
+  registered = map (register_value net ns tick.clocks) p.registers.items ++ drop count before.state.items
+
+  registered_wide : widths registered ≡ (shape net).state
+  registered_wide =
+      map-append (λ (v : BitVector). v.width) (map (register_value net ns tick.clocks) p.registers.items) (drop count before.state.items)
+      ∙ ap₂ (λ (ws us : List ℕ). ws ++ us) (widths_of (register_value net ns tick.clocks) p.registers.items ∙ register_widths net running.whole p running.plan)
+      (sym (drop-map (λ (v : BitVector). v.width) count before.state.items) ∙ ap (drop count) running.view.state
+      ∙ ap (λ (n : ℕ). drop n (shape net).state) (registers_count net steps p before running) ∙ drop-append_seam (map (leaf_width net.leaves) (registers net)) (array_widths net))
+
   state_wide : widths after.state.items ≡ (shape net).state
-  state_wide = ap widths t.state ∙ widths_of (register_value net after.numbers.items tick.clocks) p.registers.items ∙ state_widths net running.whole p running.plan
+  state_wide =
+      ap widths t.state
+      ∙ written_widths net ns tick.clocks (shape net).state p.writes.items registered (writes_keep net running.plan.roots p.writes.items running.plan.writes tick.clocks ns) registered_wide
 
   outputs_wide : widths after.outputs.items ≡ output_widths net
   outputs_wide = ap widths t.outputs ∙ widths_of (output_value after.numbers.items) p.outputs.items ∙ shown_widths net running.whole p running.plan
@@ -127,17 +169,54 @@ module _ (net : FlatNet) (steps : List Step) (p : Plan) (tick : Tick) (is_tick :
   inputs_are : map (number_at start) (inputs net) ≡ tick.inputs
   inputs_are = ap (λ (h : List ℕ). map (number_at h) (inputs net)) t.put ∙ given net steps p before running tick is_tick
 
-  words_are : map (number_at start) (registers net) ≡ numbers before.state.items
+  words_are : map (number_at start) (registers net) ≡ take (length (registers net)) (numbers before.state.items)
   words_are = ap (λ (h : List ℕ). map (number_at h) (registers net)) t.put ∙ kept net steps p before running tick is_tick
 
-  pub allows : HasItsType → NodesHaveTheirTypes → NodesHaveTheirValues → Allows net (numbers before.state.items) tick (numbers after.outputs.items) (map (root_at running.plan.roots) (clock_outputs net)) (numbers after.state.items)
-  allows has types law =
-      let roots = running.plan.roots in
-      let ns = after.numbers.items in (
-        number_at ns,
-        root_at roots,
-        settles has types law net running.whole start ns t.settled roots running.plan.are_roots (numbers before.state.items) tick is_tick (state_fits net steps p before running) inputs_are words_are,
-        sym (ap numbers t.outputs ∙ numbers_of (output_value ns) p.outputs.items ∙ ap (map (λ q. (output_value ns q).number)) running.plan.outputs ∙ outputs_shown net running.whole ns),
-        refl,
-        sym (ap numbers t.state ∙ numbers_of (register_value net ns tick.clocks) p.registers.items ∙ words_taken has types law net running.whole start ns t.settled roots tick p.registers.items running.plan.registers),
-      )
+  module _ (has : HasItsType) (types : NodesHaveTheirTypes) (law : NodesHaveTheirValues) where
+    abbrev roots : List (Option ℕ)
+    roots = running.plan.roots
+
+    abbrev old : List ℕ
+    old = numbers before.state.items
+
+    abbrev registers_next : List ℕ
+    registers_next = words_next net (number_at ns) (root_at roots) tick
+
+    next_long : length registers_next ≡ length net.state
+    next_long = length-map (registers net) (next_word net (number_at ns) (root_at roots) tick.clocks)
+
+    count_is : count ≡ length registers_next
+    count_is = registers_count net steps p before running ∙ length-map (registers net) (leaf_width net.leaves) ∙ sym next_long
+
+    arrays_long : length (drop count old) ≡ length (array_widths net)
+    arrays_long =
+        let cut = length-drop count old in
+        let long = length-map before.state.items (λ (v : BitVector). v.number) in
+        let all = state_long net steps p before running in
+        let front = registers_count net steps p before running in
+        omega arith
+
+    registered_numbers : numbers registered ≡ registers_next ++ drop count old
+    registered_numbers =
+        map-append (λ (v : BitVector). v.number) (map (register_value net ns tick.clocks) p.registers.items) (drop count before.state.items)
+        ∙ ap₂ (λ (ms ks : List ℕ). ms ++ ks)
+        (numbers_of (register_value net ns tick.clocks) p.registers.items ∙ words_taken has types law net running.whole old start ns t.settled roots tick p.registers.items running.plan.registers)
+        (sym (drop-map (λ (v : BitVector). v.number) count before.state.items))
+
+    next_state : next net old (number_at ns) (root_at roots) tick ≡ numbers after.state.items
+    next_state =
+        sym
+        (ap numbers t.state ∙ written_numbers net ns tick.clocks p.writes.items registered ∙ ap (put_all net ns tick.clocks p.writes.items) registered_numbers
+        ∙ arrays_put has types law net running.whole old start ns t.settled roots tick.clocks net.array_order p.writes.items registers_next (drop count old) running.plan.writes arrays_long running.whole.array_state.once
+        (λ k here. ap (λ (n : ℕ). begin_from net.arrays n net.array_order k) (sym next_long))
+        (λ i. ap (λ (n : ℕ). slice_index old (n + i)) (sym count_is) ∙ sym (get_or-drop count old i 0)))
+
+    pub allows : Allows net old tick (numbers after.outputs.items) (map (root_at roots) (clock_outputs net)) (numbers after.state.items)
+    allows = (
+      number_at ns,
+      root_at roots,
+      settles has types law net running.whole old start ns t.settled roots running.plan.are_roots tick is_tick (state_fits net steps p before running) inputs_are words_are,
+      sym (ap numbers t.outputs ∙ numbers_of (output_value ns) p.outputs.items ∙ ap (map (λ q. (output_value ns q).number)) running.plan.outputs ∙ outputs_shown net running.whole ns),
+      refl,
+      next_state,
+    )

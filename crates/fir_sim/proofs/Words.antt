@@ -18,7 +18,7 @@ use Rattle.fir_net.specs.working.IsNet.{CanRead, CanBeDriven, CanBeReset, IsNet,
 use Rattle.fir_net.specs.working.Laws.{NodesHaveTheirTypes, NodesHaveTheirValues}
 use Rattle.fir_net.specs.working.Settled.{value_at, is_high, outputs, registers}
 use Rattle.fir_net.specs.working.Values.{at_width}
-use Rattle.fir_net.specs.working.Next.{taken, taken_under, taken_with, ticks, next_by, next_of, next_word, next}
+use Rattle.fir_net.specs.working.Next.{taken, taken_under, taken_with, ticks, next_by, next_of, next_word, words_next}
 use Rattle.fir_net.proofs.LeafEquations.{driven_at}
 use Rattle.fir_net.proofs.WholeValues.{type_at}
 use Rattle.fir_work.specs.declared.task.Task.{Task}
@@ -27,7 +27,8 @@ use Rattle.fir_work.specs.working.Tasks.{IsFitTask, worked}
 use Rattle.fir_tick.specs.declared.plan.RegisterPlan.{RegisterPlan}
 use Rattle.fir_tick.specs.declared.plan.ResetPlan.{ResetPlan}
 use Rattle.fir_work.specs.working.Held.{IsHeld}
-use Rattle.fir_tick.specs.working.Plans.{root_at, output_plan, plans_by, IsNextPlan, IsRegisterPlan, IsResetPlan}
+use Rattle.fir_tick.specs.working.Plans.{output_plan, plans_by, IsNextPlan, IsRegisterPlan, IsResetPlan}
+use Rattle.fir_tick.specs.working.Roots.{root_at}
 use Rattle.fir_tick.specs.working.Passes.{output_value, next_number, init_number, taken_number, register_value, CanBeTaken, CanReset, CanTake, Gives}
 use Rattle.fir_tick.specs.working.Settling.{IsSettled}
 use Rattle.fir_tick.proofs.Lists.{pairs_left, pairs_same}
@@ -43,7 +44,7 @@ outputs_shown net whole ns = pairs_same (IsOutput net) (λ p. (output_value ns p
 
 -- each register can take an edge
 module _ (has : HasItsType) (types : NodesHaveTheirTypes) (net : FlatNet) (whole : IsNet net) (ns : List ℕ) (held : IsHeld net ns) where
-  fit_gives : (w : ℕ) (r : Read) (t : Task) → CanRead net.leaves net.nodes r → IsFitTask net r w t → Gives net ns w t
+  pub fit_gives : (w : ℕ) (r : Read) (t : Task) → CanRead net.leaves net.nodes r → IsFitTask net r w t → Gives net ns w t
   fit_gives w r t can is = let fit = held.fits r (read_of net r can) in record { runs = is.runs ns fit; below = subst (λ (n : ℕ). n < 2 ^ w) (sym (is.gives ns fit)) (read_below has types net whole ns held w r can) }
 
   next_can : (w : ℕ) (signed : Bool) (o : Option Read) (t : Option Task) → IsNextPlan net w o t → CanBeDriven net.leaves net.nodes signed o → CanBeTaken net ns w t
@@ -76,15 +77,15 @@ module _ (has : HasItsType) (types : NodesHaveTheirTypes) (net : FlatNet) (whole
   registers_can roots ps pairs = pairs_left (IsRegisterPlan net roots) (CanTake net ns) (register_can roots) ps (registers net) pairs
 
 -- the words after the edges
-module _ (has : HasItsType) (types : NodesHaveTheirTypes) (law : NodesHaveTheirValues) (net : FlatNet) (whole : IsNet net) (start ns : List ℕ) (s : IsSettled net start ns) where
+module _ (has : HasItsType) (types : NodesHaveTheirTypes) (law : NodesHaveTheirValues) (net : FlatNet) (whole : IsNet net) (state start ns : List ℕ) (s : IsSettled net state start ns) where
   abbrev value : Read → Num
   value = value_in net ns
 
   abbrev env : ℕ → ℕ
   env = number_at ns
 
-  fit_is : (w : ℕ) (r : Read) (t : Task) → CanRead net.leaves net.nodes r → IsFitTask net r w t → worked net t ns ≡ at_width (value_at net env r) w
-  fit_is w r t can is = is.gives ns (s.held.fits r (read_of net r can)) ∙ same_fitted has types law net whole start ns s w r can
+  pub fit_is : (w : ℕ) (r : Read) (t : Task) → CanRead net.leaves net.nodes r → IsFitTask net r w t → worked net t ns ≡ at_width (value_at net env r) w
+  fit_is w r t can is = is.gives ns (s.held.fits r (read_of net r can)) ∙ same_fitted has types law net whole state start ns s w r can
 
   next_is : (w : ℕ) (signed : Bool) (now : ℕ) (o : Option Read) (t : Option Task) → IsNextPlan net w o t → CanBeDriven net.leaves net.nodes signed o → next_number net ns now t ≡ taken net env w now o
   next_is w signed now None None is can = refl
@@ -97,12 +98,12 @@ module _ (has : HasItsType) (types : NodesHaveTheirTypes) (law : NodesHaveTheirV
       → (if nat_eq x 1 then init_number net ns now kind init else n) ≡ taken_under net env w now kind c i m
   under_is w now n m x Synchronous c i init can is_x is_init e =
       ap (λ (y : ℕ). if nat_eq y 1 then worked net init ns else n) is_x
-      ∙ ap (λ (b : Bool). if b then worked net init ns else n) (same_high has types law net whole start ns s c can)
+      ∙ ap (λ (b : Bool). if b then worked net init ns else n) (same_high has types law net whole state start ns s c can)
       ∙ ap (λ (y : ℕ). if is_high net env c then y else n) is_init
       ∙ ap (λ (y : ℕ). if is_high net env c then at_width (value_at net env i) w else y) e
   under_is w now n m x Asynchronous c i init can is_x is_init e =
       ap (λ (y : ℕ). if nat_eq y 1 then now else n) is_x
-      ∙ ap (λ (b : Bool). if b then now else n) (same_high has types law net whole start ns s c can)
+      ∙ ap (λ (b : Bool). if b then now else n) (same_high has types law net whole state start ns s c can)
       ∙ ap (λ (y : ℕ). if is_high net env c then now else y) e
 
   taken_is : (w : ℕ) (signed : Bool) (now : ℕ) (o : Option Reset) (p : Option ResetPlan) (next : Option Task) (m : ℕ) → IsResetPlan net w o p → CanBeReset net.leaves net.nodes signed o → next_number net ns now next ≡ m
@@ -127,5 +128,5 @@ module _ (has : HasItsType) (types : NodesHaveTheirTypes) (law : NodesHaveTheirV
         ∙ ap (λ (w : ℕ). next_by net env (root_at roots) named w (number_at ns k) (role.Register d)) (sym i.width)
         ∙ sym (ap (next_of net env (root_at roots) named (env k)) i.at ∙ ap (next_by net env (root_at roots) named i.leaf.width (env k)) i.kind)
 
-  pub words_taken : (roots : List (Option ℕ)) (tick : Tick) (ps : List RegisterPlan) → AllZip (IsRegisterPlan net roots) ps (registers net) → map (λ p. (register_value net ns tick.clocks p).number) ps ≡ next net env (root_at roots) tick
+  pub words_taken : (roots : List (Option ℕ)) (tick : Tick) (ps : List RegisterPlan) → AllZip (IsRegisterPlan net roots) ps (registers net) → map (λ p. (register_value net ns tick.clocks p).number) ps ≡ words_next net env (root_at roots) tick
   words_taken roots tick ps pairs = pairs_same (IsRegisterPlan net roots) (λ p. (register_value net ns tick.clocks p).number) (next_word net env (root_at roots) tick.clocks) (word_same roots tick.clocks) ps (registers net) pairs

@@ -14,7 +14,7 @@ use fir_bits::laws::has_its_type;
 use fir_loop::Order;
 use fir_net::FlatNet;
 use fir_net::laws::{nodes_have_their_types, nodes_have_their_values};
-use fir_tick::{Plan, Step, Values, output_zeros, state_of, steps_of, zeros};
+use fir_tick::{Plan, Step, Values, array_spans, output_zeros, state_of, steps_of, zeros};
 use std::alloc::Global;
 use std::marker::Model;
 use trace_text::{Init, Tick};
@@ -50,12 +50,13 @@ impl Sim {
         ensures outputs { IfOk result (λ s. numbers s.outputs ≡ replicate (length (output_widths net)) 0) }
         ensures state { IfOk result (λ s. numbers s.state ≡ init.now) }
     {
-        let steps = steps_of(alloc, &net, order.as_slice())?;
-        let plan = Plan::new(alloc, &net, order.as_slice())?;
+        let spans = array_spans(alloc, &net)?;
+        let steps = steps_of(alloc, &net, spans.as_slice(), order.as_slice())?;
+        let plan = Plan::new(alloc, &net, spans.as_slice(), order.as_slice())?;
         let values = Values {
             numbers: zeros(alloc, &net)?,
             outputs: output_zeros(alloc, plan.outputs.as_slice())?,
-            state: state_of(alloc, plan.registers.as_slice(), init.words())?,
+            state: state_of(alloc, &net, init.words())?,
         };
         Ok(Sim {
             net,

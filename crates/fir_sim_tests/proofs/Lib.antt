@@ -1,2 +1,3 @@
+pub mod TestArrays
 pub mod TestLeaves
 pub mod TestStates

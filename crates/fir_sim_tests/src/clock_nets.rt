@@ -48,5 +48,7 @@ fn net(alloc: Global, roles: &[Role]) -> Result<FlatNet, MemoryOut> {
         leaves: Seq::from_vec(leaves),
         nodes: Seq::from_vec(Vec::new(alloc)),
         state: Seq::from_vec(Vec::new(alloc)),
+        arrays: Seq::from_vec(Vec::new(alloc)),
+        array_order: Seq::from_vec(Vec::new(alloc)),
     })
 }

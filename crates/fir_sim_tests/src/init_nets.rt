@@ -1,4 +1,4 @@
-//! Small nets of registers with inits.
+//! Small nets of registers with inits, one of them a word of an array.
 
 ghost use Rattle.std.specs.Prelude.{◌≡◌, ◌<◌, ◌≤◌, ◌^◌, [], ◌∷◌, map, IfOk, None, Some, false};
 ghost use Rattle.fir_net.specs.declared.node.Node.{Node};
@@ -9,7 +9,10 @@ ghost use Rattle.fir_net.specs.working.IsNet.{IsNet};
 use fir_ast::{LeafId, NodeId, Place};
 use fir_base::{MemoryOut, Name, Seq};
 use fir_bits::{Bits, Num, PrimOp};
-use fir_net::{FlatNet, Leaf, Mux, Node, Operation, Read, Reads, Register, Reset, ResetKind, Role};
+use fir_net::{
+    Array, ArrayRead, ArrayWrite, FlatNet, Leaf, Mux, Node, Operation, Read, Reads, Register,
+    Reset, ResetKind, Role,
+};
 use std::alloc::Global;
 
 /// The name of a leaf, the line where it is declared, its width and its role.
@@ -55,6 +58,8 @@ pub fn registers(
             LeafId::new(5),
             LeafId::new(6),
         ]?,
+        Vec::new(alloc),
+        Vec::new(alloc),
     )
 }
 
@@ -73,7 +78,59 @@ pub fn ring(alloc: Global) -> Result<FlatNet, MemoryOut>
         ],
         Vec::new(alloc),
         vec![in alloc; LeafId::new(2)]?,
+        Vec::new(alloc),
+        Vec::new(alloc),
     )
+}
+
+/// A register whose init is a wire of a word of an array. What is read is written back.
+pub fn word(alloc: Global) -> Result<FlatNet, MemoryOut>
+    ensures { IfOk result (λ n. IsNet n) }
+{
+    net(
+        alloc,
+        &[
+            (b'k', 1, 1, Role::Clock),
+            (b'r', 1, 1, Role::Input),
+            (b'z', 2, 4, register(ResetKind::Asynchronous, leaf(3))),
+            (b'u', 1, 4, Role::Wire(leaf(4))),
+            (b'd', 1, 4, Role::Reading(reading())),
+            (b'a', 1, 1, Role::Wire(leaf(1))),
+        ],
+        Vec::new(alloc),
+        vec![in alloc; LeafId::new(2)]?,
+        vec![in alloc; array(alloc)?]?,
+        vec![in alloc; 0]?,
+    )
+}
+
+/// What the leaf d reads: the word at the address a, while r is 1.
+fn reading() -> ArrayRead
+    ensures { result ≡ record { array = 0; address = Read.Leaf 5; enable = Read.Leaf 1 } }
+{
+    ArrayRead {
+        array: 0,
+        address: leaf(5),
+        enable: leaf(1),
+    }
+}
+
+/// Two words, of which the one at the address a takes what the leaf d reads.
+fn array(alloc: Global) -> Result<Array, MemoryOut>
+    ensures { IfOk result (λ a. a ≡ record { path = 109 ∷ []; width = 4; words = 2; writes = record { clock = 0; condition = Read.Leaf 1; address = Read.Leaf 5; given = Read.Leaf 4 } ∷ [] }) }
+{
+    let write = ArrayWrite {
+        clock: LeafId::new(0),
+        condition: leaf(1),
+        address: leaf(5),
+        given: leaf(4),
+    };
+    Ok(Array {
+        path: Name::new(alloc, b"m")?,
+        width: 4,
+        words: 2,
+        writes: Seq::from_vec(vec![in alloc; write]?),
+    })
 }
 
 /// The literals 9 and 1, what negates the wire q, a mux of them, and what joins the wires v and w.
@@ -167,8 +224,10 @@ fn net(
     rows: &[Row],
     nodes: Vec<Node>,
     state: Vec<LeafId>,
+    arrays: Vec<Array>,
+    array_order: Vec<usize>,
 ) -> Result<FlatNet, MemoryOut>
-    ensures { IfOk result (λ n. n ≡ record { name = 110 ∷ []; leaves = map (λ t. record { path = t.0 ∷ []; place = record { line = t.1; col = 1 }; signed = false; width = t.2; role = t.3 }) rows.now; nodes = nodes.items; state = state.items }) }
+    ensures { IfOk result (λ n. n ≡ record { name = 110 ∷ []; leaves = map (λ t. record { path = t.0 ∷ []; place = record { line = t.1; col = 1 }; signed = false; width = t.2; role = t.3 }) rows.now; nodes = nodes.items; state = state.items; arrays = arrays.items; array_order = array_order.items }) }
 {
     let name = Name::new(alloc, b"n")?;
     let mut leaves = Vec::new(alloc);
@@ -187,5 +246,7 @@ fn net(
         leaves: Seq::from_vec(leaves),
         nodes: Seq::from_vec(nodes),
         state: Seq::from_vec(state),
+        arrays: Seq::from_vec(arrays),
+        array_order: Seq::from_vec(array_order),
     })
 }

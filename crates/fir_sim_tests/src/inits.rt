@@ -1,6 +1,6 @@
 //! The inits of small nets, against walks and numbers that were worked out by hand.
 
-use crate::init_nets::{Varied, registers, ring};
+use crate::init_nets::{Varied, registers, ring, word};
 use crate::resets::order_of;
 use fir_ast::{FirFault, LeafId};
 use fir_inits::{init_fault, init_values};
@@ -43,6 +43,13 @@ fn the_first_register_by_its_place_is_told(rt: HostRuntime) -> Result<(), Fail> 
 fn a_ring_reaches_no_input(rt: HostRuntime) -> Result<(), Fail> {
     let net = ring(rt.alloc())?;
     assert!(rt; init_fault(rt.alloc(), &net)?.is_none());
+    Ok(())
+}
+
+#[test]
+fn a_walk_ends_at_a_word_of_an_array(rt: HostRuntime) -> Result<(), Fail> {
+    let net = word(rt.alloc())?;
+    assert!(rt; tells(&init_fault(rt.alloc(), &net)?, 2, b"ud"));
     Ok(())
 }
 

@@ -1,5 +1,6 @@
 //! A test of the simulator over registers that reset at once and registers without a clock, which no text reaches
-//! yet; and some of the roots of clocks and of inits. What texts reach stands in checks/rows.
+//! yet; and some of the roots of clocks, of inits and of the order of a net with an array. What texts reach stands in
+//! checks/rows.
 #![tactic(auto)]
 
 #[cfg(test)]
@@ -12,5 +13,7 @@ mod init_nets;
 mod inits;
 #[cfg(test)]
 mod nets;
+#[cfg(test)]
+mod orders;
 #[cfg(test)]
 mod resets;

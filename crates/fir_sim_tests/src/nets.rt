@@ -95,7 +95,7 @@ fn net(
     nodes: Vec<Node>,
     state: Vec<LeafId>,
 ) -> Result<FlatNet, MemoryOut>
-    ensures { IfOk result (λ n. n ≡ record { name = 110 ∷ []; leaves = map (λ t. record { path = t.0 ∷ []; place = record { line = 1; col = 1 }; signed = t.1; width = t.2; role = t.3 }) rows.now; nodes = nodes.items; state = state.items }) }
+    ensures { IfOk result (λ n. n ≡ record { name = 110 ∷ []; leaves = map (λ t. record { path = t.0 ∷ []; place = record { line = 1; col = 1 }; signed = t.1; width = t.2; role = t.3 }) rows.now; nodes = nodes.items; state = state.items; arrays = []; array_order = [] }) }
 {
     let name = Name::new(alloc, b"n")?;
     let mut leaves = Vec::new(alloc);
@@ -115,5 +115,7 @@ fn net(
         leaves: Seq::from_vec(leaves),
         nodes: Seq::from_vec(nodes),
         state: Seq::from_vec(state),
+        arrays: Seq::from_vec(Vec::new(alloc)),
+        array_order: Seq::from_vec(Vec::new(alloc)),
     })
 }

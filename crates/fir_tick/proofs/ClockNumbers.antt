@@ -5,7 +5,7 @@ use Rattle.fir_net.specs.declared.leaf.Role.{Role}
 use Rattle.fir_net.specs.declared.leaf.Role.TheVariants as role
 use Rattle.fir_net.specs.declared.leaf.Leaf.{Leaf}
 use Rattle.fir_net.specs.working.Settled.{clock_number, numbers_by}
-use Rattle.fir_tick.specs.working.Plans.{clock_count, clocks_before}
+use Rattle.fir_tick.specs.working.Roots.{clock_count, clocks_before}
 
 -- the clock of a number, among leaves that are numbered from `from` on and before which there are m clocks
 pub record IsClockAt (from m : ℕ) (ls : List Leaf) (n k : ℕ) : Type 0 where
@@ -35,6 +35,7 @@ module _ (from m k : ℕ) (l : Leaf) (ls : List Leaf) (rest : (c i : ℕ) → sl
   by_role (role.Output d) s i h = plain (ap clock_count s) i (rw s at h)
   by_role (role.Register d) s i h = plain (ap clock_count s) i (rw s at h)
   by_role (role.Wire d) s i h = plain (ap clock_count s) i (rw s at h)
+  by_role (role.Reading d) s i h = plain (ap clock_count s) i (rw s at h)
   by_role (role.ClockOutput d) s i h = plain (ap clock_count s) i (rw s at h)
   by_role (role.ClockWire d) s i h = plain (ap clock_count s) i (rw s at h)
 

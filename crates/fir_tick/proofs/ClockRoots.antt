@@ -11,7 +11,7 @@ use Rattle.fir_net.specs.declared.net.FlatNet.{FlatNet}
 use Rattle.fir_net.specs.working.Dependence.{clock_reads, role_reads, leaf_reads, Reads}
 use Rattle.fir_net.specs.working.IsOrder.{IsOrder}
 use Rattle.fir_net.specs.working.Settled.{clocks, clock_driver, driven_clock}
-use Rattle.fir_tick.specs.working.Plans.{clocks_before, root_at, role_root, AreRoots}
+use Rattle.fir_tick.specs.working.Roots.{clocks_before, root_at, role_root, AreRoots}
 use Rattle.fir_tick.proofs.ClockNumbers.{clock_at}
 use Rattle.fir_tick.proofs.Lists.{get_set_same, get_set_other}
 use Rattle.fir_tick.proofs.Walks.{Met, Hangs, none_met, one_more}
@@ -43,6 +43,7 @@ role_same e f n role.Clock h = refl
 role_same e f n (role.Output r) h = refl
 role_same e f n (role.Wire r) h = refl
 role_same e f n (role.Register d) h = refl
+role_same e f n (role.Reading d) h = refl
 role_same e f n (role.ClockOutput c) h = driven_same e f c h
 role_same e f n (role.ClockWire c) h = driven_same e f c h
 
@@ -110,5 +111,6 @@ module _ (net : FlatNet) (order : List Read) (is : IsOrder net order) where
       by (role.Output d) k l c is_r at e = cc
       by (role.Wire d) k l c is_r at e = cc
       by (role.Register d) k l c is_r at e = cc
+      by (role.Reading d) k l c is_r at e = cc
       by (role.ClockOutput b) k l c is_r at e = let same : b ≡ c = cc in met k l at ∙ ap (role_root (root_at roots) (slice_index (clocks_before 0 net.leaves) k)) is_r ∙ ap (driven_clock (root_at roots)) same
       by (role.ClockWire b) k l c is_r at e = let same : b ≡ c = cc in met k l at ∙ ap (role_root (root_at roots) (slice_index (clocks_before 0 net.leaves) k)) is_r ∙ ap (driven_clock (root_at roots)) same

@@ -1,11 +1,14 @@
 -- Numbers that fit widths, and numbers that rise, by their places.
-use Rattle.std.proofs.Common.{◌≡◌, ℕ, zero, suc, ◌+◌, ◌^◌, ◌<◌, ◌≤◌, List, [], ◌∷◌, length, get_or, map, refl, ap, ◌∙◌, sym, subst, arith, false, eqb, Result, Ok, Err, MatchResult, eq-eqb}
+use Rattle.std.proofs.Common.{◌≡◌, ℕ, zero, suc, ◌+◌, ◌^◌, ◌<◌, ◌≤◌, List, [], ◌∷◌, length, get_or, map, refl, ap, ◌∙◌, sym, arith, false, eqb, Result, Ok, Err, MatchResult, eq-eqb}
 use Rattle.std.specs.Result.{is_ok}
-use Rattle.std.proofs.lemmas.List.{get_or-map, length-map}
+use Rattle.std.proofs.lemmas.List.{length-map}
 use Rattle.std.proofs.lemmas.List.Folds.{list_any_at, list_any_none}
 use Rattle.std.proofs.lemmas.List.Elements.{All-from_get_or}
 use Rattle.std.proofs.lemmas.Bool.Decides.{nat_tests}
+use Rattle.std.specs.List.{AllByRecursion}
 use Rattle.fir_base.specs.Ticks.{FitEach, AreClocks, rises}
+use Rattle.fir_bits.specs.Values.{IsBitVector}
+use Rattle.fir_tick.specs.working.Passes.{values_of}
 
 pub fit_long : (ws vs : List ℕ) → FitEach ws vs → length vs ≡ length ws
 fit_long [] [] h = refl
@@ -13,18 +16,18 @@ fit_long [] (v ∷ vs) h = absurd h
 fit_long (w ∷ ws) [] h = absurd h
 fit_long (w ∷ ws) (v ∷ vs) h = ap suc (fit_long ws vs h.1)
 
-fit_get : (ws vs : List ℕ) → FitEach ws vs → (i : ℕ) → i < length ws → get_or vs i 0 < 2 ^ get_or ws i 0
-fit_get [] vs h i lt = absurd (omega arith)
-fit_get (w ∷ ws) [] h i lt = absurd h
-fit_get (w ∷ ws) (v ∷ vs) h zero lt = h.0
-fit_get (w ∷ ws) (v ∷ vs) h (suc i) lt = fit_get ws vs h.1 i (omega arith)
+pub fit_at : (ws vs : List ℕ) → FitEach ws vs → (i : ℕ) → i < length ws → get_or vs i 0 < 2 ^ get_or ws i 0
+fit_at [] vs h i lt = absurd (omega arith)
+fit_at (w ∷ ws) [] h i lt = absurd h
+fit_at (w ∷ ws) (v ∷ vs) h zero lt = h.0
+fit_at (w ∷ ws) (v ∷ vs) h (suc i) lt = fit_at ws vs h.1 i (omega arith)
 
--- the value at a place, where the widths are those of other things
-pub fit_at : {P : Type 0} → (width : P → ℕ) (ps : List P) (vs : List ℕ) → FitEach (map width ps) vs → (i : ℕ) (d : P) → i < length ps → get_or vs i 0 < 2 ^ width (get_or ps i d)
-fit_at width ps vs h i d lt =
-    let long : length (map width ps) ≡ length ps = length-map ps width in
-    let below : i < length (map width ps) = omega arith in
-    subst (λ (w : ℕ). get_or vs i 0 < 2 ^ w) (get_or-map width ps i d 0 lt) (fit_get (map width ps) vs h i below)
+-- numbers that fit narrow widths are values at them
+pub values_whole : (ws ns : List ℕ) → FitEach ws ns → AllByRecursion (λ w. w ≤ 128) ws → AllByRecursion IsBitVector (values_of ws ns)
+values_whole [] [] h narrow = tt
+values_whole [] (n ∷ ns) h narrow = absurd h
+values_whole (w ∷ ws) [] h narrow = absurd h
+values_whole (w ∷ ws) (n ∷ ns) h narrow = (record { narrow = narrow.0; below = h.0 }, values_whole ws ns h.1 narrow.1)
 
 pub fit_count : {P : Type 0} → (width : P → ℕ) (ps : List P) (vs : List ℕ) → FitEach (map width ps) vs → length vs ≡ length ps
 fit_count width ps vs h = fit_long (map width ps) vs h ∙ length-map ps width

@@ -1,5 +1,9 @@
 pub mod WordLeaves
+pub mod OrderArrays
+pub mod ArrayPlaces
+pub mod ArraysFound
 pub mod ShapeNames
+pub mod ShapeArrays
 pub mod ShapeNumbers
 pub mod ShapeWords
 pub mod WholeShapes

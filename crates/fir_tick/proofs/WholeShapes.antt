@@ -1,12 +1,14 @@
 -- What is made of a net's leaves is a shape, and it is the shape of the net's states and ticks.
-use Rattle.std.proofs.Common.{◌≡◌, ℕ, ◌≤◌, List, [], ◌∷◌, ◌++◌, Bool, true, false, map, refl, sym, ap, ap₂, ◌∙◌, inl, inr, subst, arith, unwrap_or, Option, None}
-use Rattle.std.specs.Prelude.{flat_map, nat_eq, count_by, sum_by, slice_get, IsTrue}
+use Rattle.std.proofs.Common.{◌≡◌, ℕ, ◌≤◌, List, [], ◌∷◌, ◌++◌, Bool, true, false, map, refl, sym, ap, ap₂, ◌∙◌, inl, inr, subst, arith, unwrap_or, Option, Some, None, replicate}
+use Rattle.std.specs.Prelude.{flat_map, nat_eq, count_by, sum_by, slice_get, is_some, is_none, IsTrue, MatchBool}
 use Rattle.std.specs.List.{AllByRecursion}
 use Rattle.std.proofs.lemmas.Bool.{eqb-false}
-use Rattle.std.proofs.lemmas.List.Sums.{sum_by-cons}
+use Rattle.std.proofs.lemmas.List.{map-append}
+use Rattle.std.proofs.lemmas.List.Concat.{flat_map-append}
+use Rattle.std.proofs.lemmas.List.Sums.{sum_by-append, sum_by-cons}
 use Rattle.fir_base.specs.Ticks.{Shape}
 use Rattle.fir_base.specs.Lists.{In}
-use Rattle.fir_base.proofs.Each.{all_from, all_mapped}
+use Rattle.fir_base.proofs.Each.{all_from, all_joined, all_left, all_mapped, all_right}
 use Rattle.fir_base.proofs.Elements.{number_of, all_there}
 use Rattle.ver_words.specs.Names.{is_word, IsName}
 use Rattle.fir_net.specs.declared.leaf.Role.{Role}
@@ -25,11 +27,13 @@ use Rattle.fir_net.proofs.WholeValues.{width_at}
 use Rattle.fir_net_names.specs.declared.name_table.NameTable.{NameTable}
 use Rattle.fir_net_names.specs.working.IsTable.{IsTable}
 use Rattle.fir_net_names.specs.working.LeafNamed.{somes}
+use Rattle.fir_net_names.specs.working.TableNames.{table_names}
 use Rattle.trace_text.specs.declared.shape.StateWord.{StateWord}
-use Rattle.trace_text.specs.Shapes.{TraceShape, plain, state_widths, WordKind, word_kinds}
-use Rattle.trace_text.specs.working.Shapes.{shape_of, IsWidth, IsStateWord, AreRegistersFirst, array_size, IsShape}
+use Rattle.trace_text.specs.Shapes.{TraceShape, plain, size_of, state_widths, WordKind, word_kinds}
+use Rattle.trace_text.specs.working.Shapes.{shape_of, IsWidth, IsStateWord, AreArrays, AreRegistersFirst, array_size, IsShape}
 use Rattle.fir_tick.specs.working.Shapes.{IsShapeOf}
-use Rattle.fir_tick.specs.working.StateWords.{input_width, input_widths, is_clock, state_word, state_words}
+use Rattle.fir_tick.specs.working.StateWords.{input_width, input_widths, is_clock, array_word, state_word, state_words}
+use Rattle.fir_tick.proofs.ShapeArrays.{are_arrays, array_is_word, array_kinds, array_sizes, array_there, array_widths_are}
 use Rattle.fir_tick.proofs.ShapeNames.{name_spelled, word_named, port_names, ports_before, words_distinct}
 use Rattle.fir_tick.proofs.ShapeNumbers.{input_widths_are, clock_count_is}
 
@@ -53,9 +57,14 @@ module _ (net : FlatNet) (names : List (Option (List ℕ))) where
   abbrev words : List ℕ → List StateWord
   words = map (state_word net names)
 
-  registers_first : (ks : List ℕ) → AreRegistersFirst (words ks)
-  registers_first [] = tt
-  registers_first (k ∷ ks) = registers_first ks
+  registers_first : (others : List StateWord) → AreArrays others → (ks : List ℕ) → AreRegistersFirst (words ks ++ others)
+  registers_first [] are [] = tt
+  registers_first (o ∷ others) are [] = only o.depth are.0
+    where
+      only : (d : Option ℕ) → is_some d ≡ true → MatchBool (is_none d) (AreRegistersFirst others) (AreArrays others)
+      only None e = absurd (cc)
+      only (Some n) e = are.1
+  registers_first others are (k ∷ ks) = registers_first others are ks
 
   no_array_words : (ks : List ℕ) → sum_by array_size (words ks) ≡ 0
   no_array_words [] = refl
@@ -81,12 +90,18 @@ same_shape v w s t k n e f g = rw (e, f, g) refl
 module _ (net : FlatNet) (table : NameTable) where
   -- what is made of the net's leaves and their names
   abbrev pub made : TraceShape
-  made = shape_of (input_widths net.leaves) (count_by (λ l. is_clock l.role) net.leaves) (state_words net table.leaves)
+  made = shape_of (input_widths net.leaves) (count_by (λ l. is_clock l.role) net.leaves) (state_words net table.leaves table.arrays)
 
   -- what the code makes
   pub made_by : (inputs : List ℕ) (clocks : ℕ) (state : List StateWord) (leaves : List Leaf) → leaves ≡ net.leaves → inputs ≡ input_widths leaves → clocks ≡ count_by (λ l. is_clock l.role) leaves
-      → state ≡ state_words net table.leaves → shape_of inputs clocks state ≡ made
+      → state ≡ state_words net table.leaves table.arrays → shape_of inputs clocks state ≡ made
   made_by inputs clocks state leaves same e f g = rw (e, f, g, same) refl
+
+  abbrev registers : List StateWord
+  registers = map (state_word net table.leaves) net.state
+
+  abbrev arrays : List StateWord
+  arrays = map (array_word net table.arrays) net.array_order
 
   module _ (whole : IsNet net) (is : IsTable net table) where
     word_register : (k : ℕ) → In net.state k → RegisterAt net.leaves k
@@ -105,22 +120,34 @@ module _ (net : FlatNet) (table : NameTable) where
           filled = omega arith;
         }
 
-    pub made_is_shape : AllByRecursion IsName (somes table.leaves) → IsShape made
+    pub made_is_shape : AllByRecursion IsName (table_names table) → IsShape made
     made_is_shape spelled = record {
       inputs_narrow = inputs_narrow net.leaves net.nodes net.leaves whole.leaves;
-      words = all_mapped IsStateWord (state_word net table.leaves) net.state (all_from (λ k. IsStateWord (state_word net table.leaves k)) net.state (word_is_word spelled));
-      registers_first = registers_first net table.leaves net.state;
+      words =
+          all_joined IsStateWord registers arrays
+          (all_mapped IsStateWord (state_word net table.leaves) net.state
+          (all_from (λ k. IsStateWord (state_word net table.leaves k)) net.state (word_is_word (all_left IsName (somes table.leaves) (somes table.arrays) spelled))))
+          (all_mapped IsStateWord (array_word net table.arrays) net.array_order
+          (all_from (λ k. IsStateWord (array_word net table.arrays k)) net.array_order (array_is_word net table whole is (all_right IsName (somes table.leaves) (somes table.arrays) spelled))));
+      registers_first = registers_first net table.leaves arrays (are_arrays net table.arrays net.array_order) net.state;
       distinct = words_distinct net table is;
-      few = omega (arith, no_array_words net table.leaves net.state);
+      few =
+          let few = whole.few_words in
+          let sizes = array_sizes net table.arrays net.array_order in
+          omega (arith, few, sizes, no_array_words net table.leaves net.state, sum_by-append array_size registers arrays);
     }
 
     made_plain : plain made ≡ net_shape net
-    made_plain = same_shape _ _ _ _ _ _ (input_widths_are net.leaves) (clock_count_is net.leaves) (widths_are net table.leaves net.state)
+    made_plain =
+        same_shape _ _ _ _ _ _ (input_widths_are net.leaves) (clock_count_is net.leaves)
+        (flat_map-append (λ s. replicate (size_of s) s.width) registers arrays ∙ ap₂ (λ (ws us : List ℕ). ws ++ us) (widths_are net table.leaves net.state) (array_widths_are net table.arrays net.array_order))
 
     pub made_of_net : IsShapeOf net made
     made_of_net = record {
       values = made_plain;
-      words = kinds_are net table.leaves net.state word_register;
+      words =
+          map-append (λ (s : StateWord). (s.width, s.depth)) registers arrays
+          ∙ ap₂ (λ (ks js : List WordKind). ks ++ js) (kinds_are net table.leaves net.state word_register) (array_kinds net table.arrays net.array_order (array_there net whole));
       table = table;
       named = is;
       ports = port_names net table is;

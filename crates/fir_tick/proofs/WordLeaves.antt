@@ -1,22 +1,20 @@
 -- The leaf of a word of the state that a walk over the state has come to.
 use Rattle.std.proofs.Common.{◌≡◌, ℕ, ◌+◌, ◌<◌, List, [], ◌∷◌, ◌++◌, get_or, length, take, true, Some, sym, ap, ◌∙◌, subst}
 use Rattle.std.specs.Prelude.{slice_get}
-use Rattle.std.proofs.lemmas.List.{take_more}
 use Rattle.std.proofs.lemmas.Option.{slice_get-get_or, slice_get_within}
 use Rattle.fir_net.specs.declared.leaf.Leaf.{Leaf}
 use Rattle.fir_net.specs.declared.net.FlatNet.{FlatNet}
 use Rattle.fir_net.specs.working.IsNet.{IsNet, is_word}
+use Rattle.fir_tick.proofs.Lists.{item_stands, item_next}
 
 module _ (net : FlatNet) (whole : IsNet net) (leaves : List Leaf) (all_leaves : leaves ≡ net.leaves) (state : List ℕ) (all_words : state ≡ net.state) (i word : ℕ) (within : i < length state) (is : word ≡ get_or state i word) where
   -- it stands in the state
   pub word_stands : slice_get net.state i ≡ Some word
-  word_stands = subst (λ (ks : List ℕ). slice_get ks i ≡ Some word) all_words (slice_get-get_or state i word within ∙ ap Some (sym is))
+  word_stands = item_stands state net.state all_words i word word within is
 
   -- and it is the next one
   pub word_next : take (i + 1) net.state ≡ take i net.state ++ word ∷ []
-  word_next =
-      subst (λ (ks : List ℕ). take (i + 1) ks ≡ take i ks ++ word ∷ []) all_words
-      (take_more state i word within ∙ ap (λ (k : ℕ). take i state ++ k ∷ []) (sym is))
+  word_next = item_next state net.state all_words i word word within is
 
   module _ (number : ℕ) (named : number ≡ word) where
     found : (l : Leaf) × (slice_get leaves number ≡ Some l) × (is_word l ≡ true)

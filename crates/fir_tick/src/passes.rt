@@ -1,6 +1,6 @@
 //! The passes of a tick. None takes memory.
 
-ghost use Rattle.std.specs.Prelude.{◌≡◌, ℕ, ◌<◌, ◌≤◌, ◌^◌, length, map, slice_index, slice_set};
+ghost use Rattle.std.specs.Prelude.{◌≡◌, ℕ, ◌++◌, ◌<◌, ◌≤◌, ◌^◌, drop, length, map, slice_index, slice_set};
 ghost use Rattle.std.specs.List.{AllByRecursion};
 ghost use Rattle.fir_base.specs.Ticks.{rises};
 ghost use Rattle.fir_bits.specs.Values.{IsBitVector};
@@ -22,10 +22,10 @@ pub fn put_inputs(plans: &[InputPlan], values: &[u128], numbers: &mut [u128])
     }
 }
 
-/// Puts the words of the state into the registers' places.
+/// Puts the words of the registers, which stand in front of the state, into their places.
 pub fn put_state(plans: &[RegisterPlan], state: &[Bits], numbers: &mut [u128])
     requires within { AllByRecursion (IsPlaced (length numbers.old)) plans.now }
-    requires long { length state.now ≡ length plans.now }
+    requires long { length plans.now ≤ length state.now }
     ensures { numbers.new ≡ with_state plans.now state.now numbers.old }
 {
     for (j, plan) in plans.iter().enumerate() {
@@ -62,7 +62,8 @@ fn shown(plan: &OutputPlan, numbers: &[u128]) -> Bits
     Bits::of(plan.width, numbers[plan.leaf])
 }
 
-/// Gives each register its word after the edges of the named clocks, from the numbers before them.
+/// Gives each register its word after the edges of the named clocks, from the numbers before them. The words
+/// behind those of registers stay.
 pub fn take_edges(
     net: &FlatNet,
     plans: &[RegisterPlan],
@@ -72,8 +73,9 @@ pub fn take_edges(
 )
     requires can { AllByRecursion (CanTake net.now numbers.now) plans.now }
     requires rising { (i j : ℕ) → i ≤ j → j < length named.now → slice_index named.now i ≤ slice_index named.now j }
-    requires room { length state.old ≡ length plans.now }
-    ensures values { state.new ≡ map (register_value net.now numbers.now named.now) plans.now }
+    requires room { length plans.now ≤ length state.old }
+    requires whole { AllByRecursion IsBitVector state.old }
+    ensures values { state.new ≡ map (register_value net.now numbers.now named.now) plans.now ++ drop (length plans.now) state.old }
     ensures whole { AllByRecursion IsBitVector state.new }
 {
     for (j, plan) in plans.iter().enumerate() {
@@ -138,7 +140,7 @@ fn driven(net: &FlatNet, plan: &RegisterPlan, now: u128, numbers: &[u128]) -> u1
 }
 
 /// Whether a clock, or none, is among the named ones.
-fn ticks(named: &[usize], clock: Option<usize>) -> bool
+pub fn ticks(named: &[usize], clock: Option<usize>) -> bool
     requires { (i j : ℕ) → i ≤ j → j < length named.now → slice_index named.now i ≤ slice_index named.now j }
     ensures { result ≡ ticks named.now clock }
 {

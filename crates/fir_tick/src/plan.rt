@@ -6,9 +6,12 @@ ghost use Rattle.std.specs.Option.{option_to_list};
 ghost use Rattle.fir_net.specs.working.IsNet.{CanBeDriven, CanBeReset, IsNet, is_word};
 ghost use Rattle.fir_net.specs.working.IsOrder.{IsOrder};
 ghost use Rattle.fir_net.specs.working.Settled.{registers};
+ghost use Rattle.fir_tick.specs.working.ArraySpans.{AreSpans};
 ghost use Rattle.fir_tick.specs.working.Plans.{input_plan, output_plan, plans_by, IsNextPlan, IsPlan, IsRegisterPlan, IsResetPlan};
 
 use crate::roots::{clock_roots, root_at};
+use crate::spans::ArraySpan;
+use crate::write_plans::{WritePlan, write_plans};
 use fir_base::MemoryOut;
 use fir_net::{FlatNet, Leaf, Read, Reset, ResetKind, Role};
 use fir_work::{Task, fit_task, place};
@@ -48,19 +51,26 @@ pub struct RegisterPlan {
     pub next: Option<Task>,
 }
 
-/// The inputs and outputs of a net, each in the order of the leaves, and the registers in the order of the
-/// state.
+/// The inputs and outputs of a net, each in the order of the leaves, the registers in the order of the state,
+/// and the writes of arrays in the order in which they are done.
 #[derive(Drop)]
 pub struct Plan {
     pub inputs: Vec<InputPlan>,
     pub outputs: Vec<OutputPlan>,
     pub registers: Vec<RegisterPlan>,
+    pub writes: Vec<WritePlan>,
 }
 
 impl Plan {
-    /// The plan of a net, with an order of it.
-    pub fn new(alloc: Global, net: &FlatNet, order: &[Read]) -> Result<Plan, MemoryOut>
+    /// The plan of a net, whose arrays stand there, with an order of it.
+    pub fn new(
+        alloc: Global,
+        net: &FlatNet,
+        spans: &[ArraySpan],
+        order: &[Read],
+    ) -> Result<Plan, MemoryOut>
         requires whole { IsNet net.now }
+        requires spans { AreSpans net.now spans.now }
         requires ordered { IsOrder net.now order.now }
         ensures { IfOk result (λ p. IsPlan net.now p) }
     {
@@ -70,6 +80,7 @@ impl Plan {
             inputs: input_plans(alloc, leaves)?,
             outputs: output_plans(alloc, leaves)?,
             registers: register_plans(alloc, net, roots.as_slice())?,
+            writes: write_plans(alloc, net, spans, roots.as_slice())?,
         })
     }
 }

@@ -2,7 +2,7 @@
 
 ghost use Rattle.std.specs.Prelude.{◌≡◌, ◌<◌, IfOk, length, slice_index, slice_set};
 ghost use Rattle.fir_net.specs.working.IsOrder.{IsOrder};
-ghost use Rattle.fir_tick.specs.working.Plans.{clocks_before, root_at, role_root, AreRoots};
+ghost use Rattle.fir_tick.specs.working.Roots.{clocks_before, root_at, role_root, AreRoots};
 
 use fir_ast::LeafId;
 use fir_base::MemoryOut;

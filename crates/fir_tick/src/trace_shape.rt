@@ -1,21 +1,22 @@
 //! The shape of a net's traces.
 
-ghost use Rattle.std.specs.Prelude.{◌≡◌, [], ◌∷◌, ◌++◌, IfOk, None, OnOk, count_by};
+ghost use Rattle.std.specs.Prelude.{◌≡◌, [], ◌∷◌, ◌++◌, IfOk, None, OnOk, count_by, map};
 ghost use Rattle.std.specs.Option.{option_to_list};
 ghost use Rattle.fir_net.specs.working.IsNet.{IsNet};
 ghost use Rattle.fir_net.specs.working.WordNames.{HasWordNames};
 ghost use Rattle.fir_net_names.specs.working.IsTable.{IsTable};
 ghost use Rattle.fir_tick.specs.working.Shapes.{IsShapeOf};
-ghost use Rattle.fir_tick.specs.working.StateWords.{input_width, input_widths, is_clock, state_words};
+ghost use Rattle.fir_tick.specs.working.StateWords.{input_width, input_widths, is_clock, state_word, state_words};
 
+use crate::array_words::put_array_words;
 use fir_base::{MemoryOut, Name};
 use fir_net::{FlatNet, Leaf, Role};
 use fir_net_names::{NameTable, names};
 use std::alloc::Global;
 use trace_text::{Shape, StateWord};
 
-/// The shape of the traces of a net: its inputs and clocks in port order, and the words of the state in
-/// their order, under their names in the emitted text. Only memory can be wanting.
+/// The shape of the traces of a net: its inputs and clocks in port order, and the words and then the arrays of
+/// the state in their order, under their names in the emitted text. Only memory can be wanting.
 pub fn shape(alloc: Global, net: &FlatNet) -> Result<Shape, MemoryOut>
     requires whole { IsNet net.now }
     requires words { HasWordNames net.now }
@@ -69,11 +70,26 @@ fn is_clock(role: Role) -> bool
     matches!(role, Role::Clock)
 }
 
-/// The words of the state in their order, under the names that the table has for them.
+/// The words and arrays of the state in their order, under the names that the table has for them.
 fn state_words(alloc: Global, table: &NameTable, net: &FlatNet) -> Result<Vec<StateWord>, MemoryOut>
     requires whole { IsNet net.now }
     requires named { IsTable net.now table.now }
-    ensures { IfOk result (λ v. v.items ≡ state_words net.now table.now.leaves) }
+    ensures { IfOk result (λ v. v.items ≡ state_words net.now table.now.leaves table.now.arrays) }
+{
+    let mut words = register_words(alloc, table, net)?;
+    put_array_words(alloc, table, net, &mut words)?;
+    Ok(words)
+}
+
+/// The words of the registers of the state.
+fn register_words(
+    alloc: Global,
+    table: &NameTable,
+    net: &FlatNet,
+) -> Result<Vec<StateWord>, MemoryOut>
+    requires whole { IsNet net.now }
+    requires named { IsTable net.now table.now }
+    ensures { IfOk result (λ v. v.items ≡ map (state_word net.now table.now.leaves) net.now.state) }
 {
     let leaves = net.leaves.as_slice();
     let state = net.state.as_slice();

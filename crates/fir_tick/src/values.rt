@@ -2,21 +2,25 @@
 
 ghost use Rattle.std.specs.Prelude.{◌≡◌, ◌≤◌, ◌<◌, ℕ, length, map, slice_index};
 ghost use Rattle.std.specs.List.{AllByRecursion};
+ghost use Rattle.fir_base.specs.Ticks.{FitEach};
 ghost use Rattle.fir_bits.specs.Values.{IsBitVector};
 ghost use Rattle.fir_net.specs.working.IsNet.{IsNet};
+ghost use Rattle.fir_net.specs.working.Settled.{shape};
 ghost use Rattle.fir_work.specs.working.Held.{IsHeld};
 ghost use Rattle.fir_tick.specs.working.Settling.{IsSettled};
 ghost use Rattle.fir_tick.specs.working.Steps.{IsStepped};
-ghost use Rattle.fir_tick.specs.working.Passes.{with_inputs, with_state, CanTake, IsPlaced, IsShown, IsWithin, output_value, register_value};
+ghost use Rattle.fir_tick.specs.working.ArrayWrites.{after_edges, CanWrite};
+ghost use Rattle.fir_tick.specs.working.Passes.{with_inputs, with_state, CanTake, IsPlaced, IsShown, IsWithin, output_value};
+ghost use Rattle.fir_tick.specs.working.Views.{numbers as words_of};
 
 use crate::plan::Plan;
 use crate::steps::Step;
-use crate::{passes, settle};
+use crate::{array_writes, passes, settle};
 use fir_bits::Bits;
 use fir_net::FlatNet;
 
 /// The numbers of all leaves and then of all nodes, where a clock's leaf has none to speak of; and the values
-/// of the outputs and the words of the state, in their order.
+/// of the outputs and the words of the state, in their order: those of registers, and then those of arrays.
 #[derive(Drop)]
 pub struct Values {
     pub numbers: Vec<u128>,
@@ -25,10 +29,10 @@ pub struct Values {
 }
 
 impl Values {
-    /// Puts the words of the state into the registers' places.
+    /// Puts the words of the registers into their places.
     pub fn put_state(&mut self, plan: &Plan)
         requires within { AllByRecursion (IsPlaced (length self.old.numbers.items)) plan.now.registers.items }
-        requires long { length self.old.state.items ≡ length plan.now.registers.items }
+        requires long { length plan.now.registers.items ≤ length self.old.state.items }
         ensures numbers { self.new.numbers.items ≡ with_state plan.now.registers.items self.old.state.items self.old.numbers.items }
         ensures others { self.new ≡ record self.old { numbers = self.new.numbers } }
     {
@@ -50,11 +54,13 @@ impl Values {
     pub fn settle(&mut self, net: &FlatNet, steps: &[Step])
         requires whole { IsNet net.now }
         requires stepped { IsStepped net.now steps.now }
+        requires fits { FitEach (shape net.now).state (words_of self.old.state.items) }
         requires held { IsHeld net.now self.old.numbers.items }
-        ensures settled { IsSettled net.now self.old.numbers.items self.new.numbers.items }
+        ensures settled { IsSettled net.now (words_of self.old.state.items) self.old.numbers.items self.new.numbers.items }
         ensures others { self.new ≡ record self.old { numbers = self.new.numbers } }
     {
-        settle::settle(net, steps, &mut self.numbers);
+        let state = self.state.as_slice();
+        settle::settle(net, steps, state, &mut self.numbers);
     }
 
     /// Shows the outputs.
@@ -69,23 +75,22 @@ impl Values {
         passes::show_outputs(plan.outputs.as_slice(), numbers, &mut self.outputs);
     }
 
-    /// Gives each register its word after the edges of the named clocks. All numbers stay what they are before
-    /// them.
+    /// Gives each register its word after the edges of the named clocks, and each word of an array what is
+    /// written there. All numbers stay what they are before them.
     pub fn take_edges(&mut self, net: &FlatNet, plan: &Plan, named: &[usize])
         requires can { AllByRecursion (CanTake net.now self.old.numbers.items) plan.now.registers.items }
+        requires writes { AllByRecursion (CanWrite net.now self.old.numbers.items (length self.old.state.items)) plan.now.writes.items }
         requires rising { (i j : ℕ) → i ≤ j → j < length named.now → slice_index named.now i ≤ slice_index named.now j }
-        requires room { length self.old.state.items ≡ length plan.now.registers.items }
-        ensures state { self.new.state.items ≡ map (register_value net.now self.old.numbers.items named.now) plan.now.registers.items }
+        requires room { length plan.now.registers.items ≤ length self.old.state.items }
+        requires whole { AllByRecursion IsBitVector self.old.state.items }
+        ensures state { self.new.state.items ≡ after_edges net.now self.old.numbers.items named.now plan.now self.old.state.items }
         ensures whole { AllByRecursion IsBitVector self.new.state.items }
         ensures others { self.new ≡ record self.old { state = self.new.state } }
     {
         let numbers = self.numbers.as_slice();
-        passes::take_edges(
-            net,
-            plan.registers.as_slice(),
-            named,
-            numbers,
-            &mut self.state,
-        );
+        let registers = plan.registers.as_slice();
+        passes::take_edges(net, registers, named, numbers, &mut self.state);
+        let writes = plan.writes.as_slice();
+        array_writes::write_arrays(net, writes, named, numbers, &mut self.state);
     }
 }

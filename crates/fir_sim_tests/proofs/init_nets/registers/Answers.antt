@@ -9,6 +9,7 @@ use Rattle.fir_net.specs.declared.node.Node.TheVariants as node
 use Rattle.fir_net.specs.declared.net.FlatNet.{FlatNet}
 use Rattle.fir_net.specs.working.IsNet.{IsNet}
 use Rattle.fir_sim_tests.specs.declared.init_nets.Varied.{Varied}
+use Rattle.fir_sim_tests.proofs.TestArrays.{no_arrays, readings_of}
 use Rattle.fir_sim_tests.proofs.TestLeaves.{leaf, register_on}
 use Rattle.fir_sim_tests.proofs.TestStates.{state_of}
 use Rattle.fir_sim_tests.proofs.init_nets.registers.Goals as goal
@@ -50,6 +51,8 @@ module _ (x m a b : Varied) where
         ∷ node.Operation (record { op = op.And; reads = read.Leaf 9 ∷ read.Leaf 10 ∷ []; integers = []; signed = false; width = 4 })
         ∷ [];
     state = 3 ∷ 4 ∷ 5 ∷ 6 ∷ [];
+    arrays = [];
+    array_order = [];
   }
 
   whole : IsNet net
@@ -58,7 +61,11 @@ module _ (x m a b : Varied) where
     ports_first = (refl, (refl, (refl, (refl, (refl, (refl, (refl, tt)))))));
     nodes = (record { narrow = lit≤ tt; below = lit< tt }, (record { reads = ((q, refl, refl), tt); has_type = refl }, (record { narrow = lit≤ tt; below = lit< tt }, (record { reads = (lit< tt, ((p, refl, refl), (lit< tt, tt))); has_type = (refl, refl, refl, refl) }, (record { reads = ((v, refl, refl), ((w, refl, refl), tt)); has_type = refl }, tt)))));
     state = state_of net.leaves;
+    arrays = tt;
+    readings = readings_of [] net.leaves (tt, (tt, (tt, (tt, (tt, (tt, (tt, (tt, (tt, (tt, (tt, tt)))))))))));
+    array_state = no_arrays;
+    few_words = lit≤ tt;
   }
 
 pub returns : goal.returns
-returns c = IfOk-weaker c.net.result _ _ (λ n e. subst IsNet (sym e) (rw (c.in_ok-nodes.ensures, c.in_ok-vec.ensures.items, c.register.ensures, c.register-2.ensures, c.register-3.ensures, c.register-4.ensures, c.leaf.ensures, c.leaf-2.ensures, c.leaf-3.ensures, c.leaf-4.ensures, c.node.ensures, c.node-2.ensures, c.node-3.ensures, c.node-4.ensures, c.new.ensures, c.new-2.ensures, c.new-3.ensures, c.new-4.ensures) (whole c.args.x c.args.m c.args.a c.args.b))) c.net.ensures
+returns c = IfOk-weaker c.net.result _ _ (λ n e. subst IsNet (sym e) (rw (c.in_ok-nodes.ensures, c.in_ok-vec.ensures.items, c.register.ensures, c.register-2.ensures, c.register-3.ensures, c.register-4.ensures, c.leaf.ensures, c.leaf-2.ensures, c.leaf-3.ensures, c.leaf-4.ensures, c.node.ensures, c.node-2.ensures, c.node-3.ensures, c.node-4.ensures, c.new.ensures, c.new-2.ensures, c.new-3.ensures, c.new-4.ensures, c.new-5.ensures.items, c.new-6.ensures.items) (whole c.args.x c.args.m c.args.a c.args.b))) c.net.ensures

@@ -7,6 +7,7 @@ use Rattle.fir_net.specs.declared.leaf.Role.TheVariants as role
 use Rattle.fir_net.specs.declared.leaf.Leaf.{Leaf}
 use Rattle.fir_net.specs.declared.net.FlatNet.{FlatNet}
 use Rattle.fir_net.specs.working.IsNet.{IsNet}
+use Rattle.fir_sim_tests.proofs.TestArrays.{no_arrays, readings_of}
 use Rattle.fir_sim_tests.proofs.TestLeaves.{leaf, register_on}
 use Rattle.fir_sim_tests.proofs.TestStates.{state_of}
 use Rattle.fir_sim_tests.proofs.init_nets.ring.Goals as goal
@@ -24,7 +25,7 @@ abbrev v : Leaf
 v = leaf 118 false 4 (role.Wire (read.Leaf 3))
 
 abbrev net : FlatNet
-net = record { name = 110 ∷ []; leaves = k ∷ r ∷ register_on 122 2 4 Asynchronous (read.Leaf 3) ∷ u ∷ v ∷ []; nodes = []; state = 2 ∷ [] }
+net = record { name = 110 ∷ []; leaves = k ∷ r ∷ register_on 122 2 4 Asynchronous (read.Leaf 3) ∷ u ∷ v ∷ []; nodes = []; state = 2 ∷ []; arrays = []; array_order = [] }
 
 whole : IsNet net
 whole = record {
@@ -32,7 +33,11 @@ whole = record {
   ports_first = (refl, (refl, tt));
   nodes = tt;
   state = state_of net.leaves;
+  arrays = tt;
+  readings = readings_of [] net.leaves (tt, (tt, (tt, (tt, (tt, tt)))));
+  array_state = no_arrays;
+  few_words = lit≤ tt;
 }
 
 pub returns : goal.returns
-returns c = IfOk-weaker c.net.result _ _ (λ n e. subst IsNet (sym e) (rw (c.in_ok-vec.ensures.items, c.register.ensures, c.leaf.ensures, c.leaf-2.ensures, c.leaf-3.ensures, c.new.ensures.items, c.new-2.ensures) whole)) c.net.ensures
+returns c = IfOk-weaker c.net.result _ _ (λ n e. subst IsNet (sym e) (rw (c.in_ok-vec.ensures.items, c.register.ensures, c.leaf.ensures, c.leaf-2.ensures, c.leaf-3.ensures, c.new.ensures.items, c.new-2.ensures, c.new-3.ensures.items, c.new-4.ensures.items) whole)) c.net.ensures

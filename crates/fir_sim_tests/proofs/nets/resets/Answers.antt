@@ -10,6 +10,7 @@ use Rattle.fir_net.specs.declared.leaf.Leaf.{Leaf}
 use Rattle.fir_net.specs.declared.node.Node.TheVariants as node
 use Rattle.fir_net.specs.declared.net.FlatNet.{FlatNet}
 use Rattle.fir_net.specs.working.IsNet.{IsNet}
+use Rattle.fir_sim_tests.proofs.TestArrays.{no_arrays, readings_of}
 use Rattle.fir_sim_tests.proofs.TestLeaves.{leaf}
 use Rattle.fir_sim_tests.proofs.TestStates.{state_of}
 use Rattle.fir_sim_tests.proofs.nets.resets.Goals as goal
@@ -47,6 +48,8 @@ net = record {
   leaves = k ∷ r ∷ a ∷ leaf 115 false 4 (role.Output (read.Leaf 6)) ∷ leaf 116 false 4 (role.Output (read.Leaf 7)) ∷ leaf 117 false 4 (role.Output (read.Leaf 8)) ∷ x ∷ y ∷ z ∷ l ∷ m ∷ [];
   nodes = node.Literal (record { signed = false; value = record { width = 4; number = 9 } }) ∷ [];
   state = 6 ∷ 7 ∷ 8 ∷ [];
+  arrays = [];
+  array_order = [];
 }
 
 whole : IsNet net
@@ -55,6 +58,10 @@ whole = record {
   ports_first = (refl, (refl, (refl, (refl, tt))));
   nodes = (record { narrow = lit≤ tt; below = lit< tt }, tt);
   state = state_of net.leaves;
+  arrays = tt;
+  readings = readings_of [] net.leaves (tt, (tt, (tt, (tt, (tt, (tt, (tt, (tt, (tt, (tt, (tt, tt)))))))))));
+  array_state = no_arrays;
+  few_words = lit≤ tt;
 }
 
 pub returns-clause-whole : goal.returns-clause-whole

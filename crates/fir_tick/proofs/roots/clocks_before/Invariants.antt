@@ -1,5 +1,5 @@
 use Rattle.std.proofs.Common.{◌≡◌, ◌≤◌, ◌++◌, drop}
-use Rattle.fir_tick.specs.working.Plans.{clocks_before}
+use Rattle.fir_tick.specs.working.Roots.{clocks_before}
 use Rattle.fir_tick.proofs.roots.clocks_before.Given as goal
 
 abbrev pub invariant-loop-leaf : goal.invariant-loop-leaf

@@ -3,7 +3,7 @@ use Rattle.std.specs.Prelude.{slice_get}
 use Rattle.std.proofs.lemmas.Option.{slice_get_read}
 use Rattle.fir_net.specs.declared.reads.Read.TheVariants as read
 use Rattle.fir_net.specs.declared.leaf.Leaf.{Leaf}
-use Rattle.fir_tick.specs.working.Plans.{clocks_before, root_at, role_root}
+use Rattle.fir_tick.specs.working.Roots.{clocks_before, root_at, role_root}
 use Rattle.fir_tick.proofs.ClockRoots.{none_rooted, leaf_rooted, node_rooted, all_rooted}
 use Rattle.fir_tick.proofs.roots.find_roots.Goals as goal
 use Rattle.fir_tick.proofs.roots.find_roots.Goals.{in-Leaf, in-Node}

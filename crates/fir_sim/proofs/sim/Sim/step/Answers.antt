@@ -4,12 +4,12 @@ use Rattle.fir_net.specs.working.Allows.{Allows}
 use Rattle.fir_net.specs.working.Settled.{clock_outputs, shape}
 use Rattle.fir_tick.specs.working.Views.{SimView, IsTickOf, numbers}
 use Rattle.fir_tick.specs.working.Passes.{input_width}
-use Rattle.fir_tick.specs.working.Plans.{root_at}
+use Rattle.fir_tick.specs.working.Roots.{root_at}
 use Rattle.fir_tick.specs.working.Steps.{IsStepped}
 use Rattle.fir_tick.proofs.Fits.{clocks_rise, fit_count}
 use Rattle.fir_sim.proofs.PlanFacts.{input_widths}
 use Rattle.fir_sim.proofs.Ticking.{state_room, still_running, allows}
-use Rattle.fir_sim.proofs.InTurn.{placed0, within1, held2, shown3, room3, can4, room4, ticked}
+use Rattle.fir_sim.proofs.InTurn.{placed0, within1, held2, fits2, shown3, room3, can4, writes4, room4, whole4, ticked}
 use Rattle.fir_sim.proofs.sim.Sim.step.Goals as goal
 
 pub put_state-requires-clause-within : goal.put_state-requires-clause-within
@@ -74,6 +74,17 @@ settle-requires-clause-held c =
     let is_tick : IsTickOf net tick = subst (λ (s : SimView). IsTickOf s.net tick) (sym c.self.view_is) c.requires in
     held2 net steps p tick is_tick v0 run c.put_state.new.self c.put_state.ensures.numbers c.put_state.ensures.others c.put_inputs.new.self c.put_inputs.ensures.numbers c.put_inputs.ensures.others
 
+pub settle-requires-clause-fits : goal.settle-requires-clause-fits
+settle-requires-clause-fits c =
+    let net = c.self.inside.net in
+    let steps = c.self.inside.steps.items in
+    let p = c.self.inside.plan in
+    let v0 = c.self.inside.values in
+    let run = c.self.invariant in
+    let tick : Tick = record { inputs = c.args.inputs.now; clocks = c.args.clocks.now } in
+    let is_tick : IsTickOf net tick = subst (λ (s : SimView). IsTickOf s.net tick) (sym c.self.view_is) c.requires in
+    fits2 net steps p tick is_tick v0 run c.put_state.new.self c.put_state.ensures.numbers c.put_state.ensures.others c.put_inputs.new.self c.put_inputs.ensures.numbers c.put_inputs.ensures.others
+
 pub show_outputs-requires-clause-shown : goal.show_outputs-requires-clause-shown
 show_outputs-requires-clause-shown c =
     let net = c.self.inside.net in
@@ -107,6 +118,17 @@ take_edges-requires-clause-can c =
     let is_tick : IsTickOf net tick = subst (λ (s : SimView). IsTickOf s.net tick) (sym c.self.view_is) c.requires in
     can4 net steps p tick is_tick v0 run c.put_state.new.self c.put_state.ensures.numbers c.put_state.ensures.others c.put_inputs.new.self c.put_inputs.ensures.numbers c.put_inputs.ensures.others c.settle.new.self c.settle.ensures.settled c.settle.ensures.others c.show_outputs.new.self c.show_outputs.ensures.others c.has_its_type.ensures c.nodes_have_their_types.ensures
 
+pub take_edges-requires-clause-writes : goal.take_edges-requires-clause-writes
+take_edges-requires-clause-writes c =
+    let net = c.self.inside.net in
+    let steps = c.self.inside.steps.items in
+    let p = c.self.inside.plan in
+    let v0 = c.self.inside.values in
+    let run = c.self.invariant in
+    let tick : Tick = record { inputs = c.args.inputs.now; clocks = c.args.clocks.now } in
+    let is_tick : IsTickOf net tick = subst (λ (s : SimView). IsTickOf s.net tick) (sym c.self.view_is) c.requires in
+    writes4 net steps p tick is_tick v0 run c.put_state.new.self c.put_state.ensures.numbers c.put_state.ensures.others c.put_inputs.new.self c.put_inputs.ensures.numbers c.put_inputs.ensures.others c.settle.new.self c.settle.ensures.settled c.settle.ensures.others c.show_outputs.new.self c.show_outputs.ensures.others c.has_its_type.ensures c.nodes_have_their_types.ensures
+
 pub take_edges-requires-clause-rising : goal.take_edges-requires-clause-rising
 take_edges-requires-clause-rising c =
     let net = c.self.inside.net in
@@ -124,6 +146,17 @@ take_edges-requires-clause-room c =
     let tick : Tick = record { inputs = c.args.inputs.now; clocks = c.args.clocks.now } in
     let is_tick : IsTickOf net tick = subst (λ (s : SimView). IsTickOf s.net tick) (sym c.self.view_is) c.requires in
     room4 net steps p tick is_tick v0 run c.put_state.new.self c.put_state.ensures.numbers c.put_state.ensures.others c.put_inputs.new.self c.put_inputs.ensures.numbers c.put_inputs.ensures.others c.settle.new.self c.settle.ensures.settled c.settle.ensures.others c.show_outputs.new.self c.show_outputs.ensures.others
+
+pub take_edges-requires-clause-whole : goal.take_edges-requires-clause-whole
+take_edges-requires-clause-whole c =
+    let net = c.self.inside.net in
+    let steps = c.self.inside.steps.items in
+    let p = c.self.inside.plan in
+    let v0 = c.self.inside.values in
+    let run = c.self.invariant in
+    let tick : Tick = record { inputs = c.args.inputs.now; clocks = c.args.clocks.now } in
+    let is_tick : IsTickOf net tick = subst (λ (s : SimView). IsTickOf s.net tick) (sym c.self.view_is) c.requires in
+    whole4 net steps p tick is_tick v0 run c.put_state.new.self c.put_state.ensures.numbers c.put_state.ensures.others c.put_inputs.new.self c.put_inputs.ensures.numbers c.put_inputs.ensures.others c.settle.new.self c.settle.ensures.settled c.settle.ensures.others c.show_outputs.new.self c.show_outputs.ensures.others
 
 pub invariant_of-self : goal.invariant_of-self
 invariant_of-self c =

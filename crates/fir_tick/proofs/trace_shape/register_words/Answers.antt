@@ -5,7 +5,7 @@ use Rattle.fir_net_names.specs.working.LeafNamed.{name_at}
 use Rattle.fir_tick.proofs.ShapeNames.{word_named}
 use Rattle.fir_tick.proofs.ShapeWords.{words_more}
 use Rattle.fir_tick.proofs.WordLeaves.{word_stands, word_next, word_leaf}
-use Rattle.fir_tick.proofs.trace_shape.state_words.Goals as goal
+use Rattle.fir_tick.proofs.trace_shape.register_words.Goals as goal
 
 pub unreachable-requires : goal.unreachable-requires
 unreachable-requires c =
