@@ -19,3 +19,4 @@ mod work;
 pub use places::place;
 pub use task::{Task, number_at};
 pub use tasks::{fit_task, node_task, shown_task};
+pub use types::read_type;

@@ -17,7 +17,7 @@ use Rattle.ver_ast.specs.Processes.{Process, assigning, showing, processes}
 use Rattle.ver_build.specs.declared.places.Places.{Places}
 use Rattle.ver_build.specs.declared.right_sides.Inner.{Inner}
 use Rattle.ver_build.specs.working.Blocks.{leaf_net, own_net}
-use Rattle.ver_build.specs.working.Built.{at_number, inner_assign, inners, order_inners, read_inners, reset_inners}
+use Rattle.ver_build.specs.working.Built.{at_number, inner_assign, inners, order_inners, read_inners, reset_inners, late_inners}
 use Rattle.ver_build.proofs.Premises.{Premises}
 use Rattle.ver_build.proofs.Parts.{in_parts, assigns_of, output_assigns}
 use Rattle.ver_build.proofs.Nets.{blocks_are}
@@ -26,6 +26,8 @@ use Rattle.ver_build.proofs.ClockAssigns.{assigns_are}
 use Rattle.ver_build.proofs.Placed.{inner_process}
 use Rattle.ver_build.proofs.ShownWords.{HasShown, leaf_shown, word_resetting, given_is, resetting_in, reset_of, shown_view}
 use Rattle.ver_build.proofs.ProcessOrder.{given, process_order}
+use Rattle.ver_build.proofs.NoArrays.{inner_either, no_leaf_inners}
+use Rattle.ver_build.specs.working.ArrayBlocks.{write_inners}
 
 module _ (net : FlatNet) (t : NameTable) (p : Places) (order : List Read) (is : Premises net t p order) where
   abbrev pub come : Read → List Process
@@ -45,10 +47,10 @@ module _ (net : FlatNet) (t : NameTable) (p : Places) (order : List Read) (is : 
   leaf_there k w = let i = is.ordered.all (read.Leaf k) (slice_get_within net.leaves k w.leaf w.at) in get_in order i.0 (read.Leaf k) i.1
 
   -- each process is in the order
-  inner_in : (i : Inner) → In (inners net p order) i → In (flat_map come order) (inner_process i)
+  inner_in : (i : Inner) → In (inners net t p order) i → In (flat_map come order) (inner_process i)
   inner_in i m =
       ⊎_elim
-      (λ (o : In (order_inners net p order) i). let r = in_flat_map_from (read_inners net p) order i o in by r.0 r.1 r.2)
+      (λ (o : In (order_inners net t p order) i). let r = in_flat_map_from (read_inners net t p) order i o in by r.0 r.1 r.2)
       (λ (o : In (reset_inners net p) i).
       let n = net_of net t p is.whole is.table i o in
       in_flat_map come order (read.Leaf n.number) (inner_process i) (leaf_there n.number n.word)
@@ -58,22 +60,22 @@ module _ (net : FlatNet) (t : NameTable) (p : Places) (order : List Read) (is : 
       (in_map inner_process (own_net p (Some n.reset) (name_at p.resets n.number)) i
       (subst (λ (j : Inner). In (own_net p (Some n.reset) (name_at p.resets n.number)) j) (sym n.is)
       (let named = n.named in rw named (inl refl)))))))
-      (in_either (order_inners net p order) (reset_inners net p) i m)
+      (in_either (order_inners net t p order) (reset_inners net p) i (inner_either net is.whole is.writable.no_arrays t p order i m))
     where
-      by : (r : Read) → In order r → In (read_inners net p r) i → In (flat_map come order) (inner_process i)
-      by (read.Leaf k) there_is n = absurd n
+      by : (r : Read) → In order r → In (read_inners net t p r) i → In (flat_map come order) (inner_process i)
+      by (read.Leaf k) there_is n = absurd (subst (λ (xs : List Inner). In xs i) (no_leaf_inners net is.whole is.writable.no_arrays t p k) n)
       by (read.Node k) there_is n =
-          in_flat_map come order (read.Node k) (inner_process i) there_is (in_map inner_process (read_inners net p (read.Node k)) i n)
+          in_flat_map come order (read.Node k) (inner_process i) there_is (in_map inner_process (read_inners net t p (read.Node k)) i n)
 
   assign_in : (a : Assign) → In (assigns (in_parts net t p order)) a → In (process_order net t p order is) (assigning a)
   assign_in a m =
       ⊎_elim
-      (λ (i : In (map inner_assign (inners net p order)) a).
-      let x = in_map_from inner_assign (inners net p order) a i in
+      (λ (i : In (map inner_assign (inners net t p order)) a).
+      let x = in_map_from inner_assign (inners net t p order) a i in
       in_left (flat_map come order) (map assigning outs) (assigning a)
       (subst (λ (b : Assign). In (flat_map come order) (assigning b)) x.2 (inner_in x.0 x.1)))
       (λ (o : In outs a). in_right (flat_map come order) (map assigning outs) (assigning a) (in_map assigning outs a o))
-      (in_either (map inner_assign (inners net p order)) outs a (subst (λ (xs : List Assign). In xs a) (assigns_are net t p order is) m))
+      (in_either (map inner_assign (inners net t p order)) outs a (subst (λ (xs : List Assign). In xs a) (assigns_are net t p order is) m))
 
   reset_in : (b : Resetting) → In (resets (in_parts net t p order)) b → In (process_order net t p order is) (showing b)
   reset_in b m =
@@ -100,8 +102,8 @@ module _ (net : FlatNet) (t : NameTable) (p : Places) (order : List Read) (is : 
       in_left (map assigning xs) (map showing (resets (in_parts net t p order))) (assigning a)
       (in_map assigning xs a (subst (λ (ys : List Assign). In ys a) (sym (assigns_are net t p order is)) m))
 
-  inner_assigned : (i : Inner) → In (inners net p order) i → In (processes (in_parts net t p order)) (inner_process i)
-  inner_assigned i m = assigned (inner_assign i) (in_left (map inner_assign (inners net p order)) outs (inner_assign i) (in_map inner_assign (inners net p order) i m))
+  inner_assigned : (i : Inner) → In (inners net t p order) i → In (processes (in_parts net t p order)) (inner_process i)
+  inner_assigned i m = assigned (inner_assign i) (in_left (map inner_assign (inners net t p order)) outs (inner_assign i) (in_map inner_assign (inners net t p order) i m))
 
   pub shown : (k : ℕ) (h : HasShown net t p k) → In (processes (in_parts net t p order)) (showing (word_resetting net t p k h.word h.reset))
   shown k h =
@@ -116,8 +118,9 @@ module _ (net : FlatNet) (t : NameTable) (p : Places) (order : List Read) (is : 
       let i = in_map_from inner_process (own_net p (Some h.reset) (name_at p.resets k)) q m in
       subst (In (processes (in_parts net t p order))) i.2
       (inner_assigned i.0
-      (in_right (order_inners net p order) (reset_inners net p) i.0
-      (in_flat_map word_net net.state k i.0 h.among (subst (λ (xs : List Inner). In xs i.0) (sym (word_net_is k h.word h.reset h.has)) i.1))))
+      (in_right (order_inners net t p order) (late_inners net p) i.0
+      (in_left (reset_inners net p) (write_inners net p) i.0
+      (in_flat_map word_net net.state k i.0 h.among (subst (λ (xs : List Inner). In xs i.0) (sym (word_net_is k h.word h.reset h.has)) i.1)))))
 
   come_only : (r : Read) (q : Process) → In order r → In (come r) q → In (processes (in_parts net t p order)) q
   come_only (read.Leaf k) q there_is m =
@@ -135,10 +138,10 @@ module _ (net : FlatNet) (t : NameTable) (p : Places) (order : List Read) (is : 
       (in_either own (block ∷ []) q (subst (λ (qs : List Process). In qs q) (given_is net t p k h.word h.reset h.has) m)))
       (shown_view net t p is.whole is.table k l.0 l.1)
   come_only (read.Node k) q there_is m =
-      let i = in_map_from inner_process (read_inners net p (read.Node k)) q m in
+      let i = in_map_from inner_process (read_inners net t p (read.Node k)) q m in
       subst (In (processes (in_parts net t p order))) i.2
       (inner_assigned i.0
-      (in_left (order_inners net p order) (reset_inners net p) i.0 (in_flat_map (read_inners net p) order (read.Node k) i.0 there_is i.1)))
+      (in_left (order_inners net t p order) (late_inners net p) i.0 (in_flat_map (read_inners net t p) order (read.Node k) i.0 there_is i.1)))
 
   pub only : (q : Process) → In (process_order net t p order is) q → In (processes (in_parts net t p order)) q
   only q m =
@@ -146,5 +149,5 @@ module _ (net : FlatNet) (t : NameTable) (p : Places) (order : List Read) (is : 
       (λ (i : In (flat_map come order) q). let r = in_flat_map_from come order q i in come_only r.0 q r.1 r.2)
       (λ (o : In (map assigning outs) q).
       let a = in_map_from assigning outs q o in
-      subst (In (processes (in_parts net t p order))) a.2 (assigned a.0 (in_right (map inner_assign (inners net p order)) outs a.0 a.1)))
+      subst (In (processes (in_parts net t p order))) a.2 (assigned a.0 (in_right (map inner_assign (inners net t p order)) outs a.0 a.1)))
       (in_either (flat_map come order) (map assigning outs) q m)

@@ -49,11 +49,11 @@ zipped_from P f (n ∷ names) (x ∷ xs) b h m =
     (in_either (f x n) (zipped f names xs) b m)
 
 module _ (net : FlatNet) (t : NameTable) (p : Places) (order : List Read) (is : Premises net t p order) where
-  pub inner_assign_in : (x : Inner) → In (inners net p order) x → In (assigns (in_parts net t p order)) (inner_assign x)
+  pub inner_assign_in : (x : Inner) → In (inners net t p order) x → In (assigns (in_parts net t p order)) (inner_assign x)
   inner_assign_in x m =
       subst (λ (xs : List Assign). In xs (inner_assign x)) (sym (assigns_are net t p order is))
-      (in_left (map inner_assign (inners net p order)) (zipped (leaf_assign p) (ordered_names net t) (ordered_leaves net)) (inner_assign x)
-      (in_map inner_assign (inners net p order) x m))
+      (in_left (map inner_assign (inners net t p order)) (zipped (leaf_assign p) (ordered_names net t) (ordered_leaves net)) (inner_assign x)
+      (in_map inner_assign (inners net t p order) x m))
 
   abbrev output : Leaf → Read → List ℕ → Assign
   output l r n = record { target = n; rhs = rhs.Atom (atom_at l.width (held_of p r)) }
@@ -64,7 +64,7 @@ module _ (net : FlatNet) (t : NameTable) (p : Places) (order : List Read) (is : 
   output_assign_in k l r n at driven named =
       let given : In (leaf_assign p l (Some n)) (output l r n) = rw driven (inl refl) in
       subst (λ (xs : List Assign). In xs (output l r n)) (sym (assigns_are net t p order is))
-      (in_right (map inner_assign (inners net p order)) (zipped (leaf_assign p) (ordered_names net t) (ordered_leaves net)) (output l r n)
+      (in_right (map inner_assign (inners net t p order)) (zipped (leaf_assign p) (ordered_names net t) (ordered_leaves net)) (output l r n)
       (ordered_part net t is.whole is.table (leaf_assign p) k l n at named (output l r n) given))
 
   by_role : (k : ℕ) (l : Leaf) (d : Role) (n : Option (List ℕ)) (a : Assign) → slice_get net.leaves k ≡ Some l → l.role ≡ d
@@ -77,13 +77,13 @@ module _ (net : FlatNet) (t : NameTable) (p : Places) (order : List Read) (is : 
 
   -- an assign is an inner net's or an output's
   pub assign_from : (a : Assign) → In (assigns (in_parts net t p order)) a
-      → ((x : Inner) × In (inners net p order) x × (inner_assign x ≡ a)) ⊎ OutputAssign net t p a
+      → ((x : Inner) × In (inners net t p order) x × (inner_assign x ≡ a)) ⊎ OutputAssign net t p a
   assign_from a m =
       ⊎_elim
-      (λ (i : In (map inner_assign (inners net p order)) a). inl (in_map_from inner_assign (inners net p order) a i))
+      (λ (i : In (map inner_assign (inners net t p order)) a). inl (in_map_from inner_assign (inners net t p order) a i))
       (λ (o : In (zipped (leaf_assign p) (ordered_names net t) (ordered_leaves net)) a).
       let z = zipped_from LeafNamed (leaf_assign p) (ordered_names net t) (ordered_leaves net) a (ordered_named net t is.whole is.table) o in
       let k = ordered_from net t is.whole is.table z.0 z.1 z.2 in
       inr (by_role k.0 z.1 z.1.role (name_at (ordered_names net t) z.0) a k.1 refl k.2 z.3))
-      (in_either (map inner_assign (inners net p order)) (zipped (leaf_assign p) (ordered_names net t) (ordered_leaves net)) a
+      (in_either (map inner_assign (inners net t p order)) (zipped (leaf_assign p) (ordered_names net t) (ordered_leaves net)) a
       (subst (λ (xs : List Assign). In xs a) (assigns_are net t p order is) m))

@@ -21,7 +21,7 @@ use Rattle.ver_build.specs.declared.places.Places.{Places}
 use Rattle.ver_build.specs.working.Operands.{atom_at}
 use Rattle.ver_build.specs.working.Places.{bit_net, held_of, clock_in}
 use Rattle.ver_build.specs.working.Blocks.{reset_net, edge_on, plain_on, block_on}
-use Rattle.ver_build.specs.working.Built.{order_inners, reset_inners}
+use Rattle.ver_build.specs.working.Built.{order_inners, reset_inners, late_inners}
 use Rattle.ver_build.proofs.Premises.{Premises}
 use Rattle.ver_build.proofs.OrderedLeaves.{ordered_part}
 use Rattle.ver_build.proofs.Parts.{blocks_of, in_parts}
@@ -35,6 +35,7 @@ use Rattle.ver_build.proofs.OperandAtoms.{atom_fits}
 use Rattle.ver_build.proofs.ReadsStand.{size_at, leaf_at, word_role, word_reset, read_stands}
 use Rattle.ver_build.proofs.Fitting.{BlockAmong, part_among, atom_among}
 use Rattle.ver_build.proofs.ClockEnds.{IsClockInput, ends_at, clock_is_port}
+use Rattle.ver_build.specs.working.ArrayBlocks.{write_inners}
 
 -- a net of one bit that a value is all of
 bit_among : (ns : List SizedNet) (w : ℕ) (s : Source) (name : List ℕ) → IsSource ns w s → bit_net s ≡ Some name → In ns (name, 1)
@@ -66,7 +67,8 @@ module _ (net : FlatNet) (t : NameTable) (p : Places) (order : List Read) (is : 
       (λ (h : HasNet p k r).
       subst (λ (n : List ℕ). In ns (n, 1)) (sym h.is)
       (inner_among net t p order is (net_inner p r h.name)
-      (in_right (order_inners net p order) (reset_inners net p) (net_inner p r h.name) (net_in net t p k m w r h.name has h.named))))
+      (in_right (order_inners net t p order) (late_inners net p) (net_inner p r h.name)
+      (in_left (reset_inners net p) (write_inners net p) (net_inner p r h.name) (net_in net t p k m w r h.name has h.named)))))
       (reset_view net t p order is k m w r has)
 
   -- the edge of a word

@@ -33,7 +33,7 @@ module _ (net : FlatNet) (t : NameTable) (p : Places) (order : List Read) (is : 
   -- no other assign drives a clock output
   pub no_clock_target : (x : List ℕ) → In (targets (assigns_of net t p order)) x → In outs x → ⊥
   no_clock_target x m o =
-      let inside = map inner_name (inners net p order) in
+      let inside = map inner_name (inners net t p order) in
       let bits = picked is_output (ordered_names net t) (ordered_leaves net) in
       ⊎_elim
       (λ (k : In inside x). no_inner net t p order is is_clock_output x o k)

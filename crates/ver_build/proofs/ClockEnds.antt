@@ -44,7 +44,7 @@ pub record IsClockedBy (net : FlatNet) (t : NameTable) (j k : ℕ) : Type 0 wher
 module _ (net : FlatNet) (t : NameTable) (p : Places) (order : List Read) (is : Premises net t p order) where
   -- what the places say of a clock leaf
   pub clock_at : (k : ℕ) (l : Leaf) → slice_get net.leaves k ≡ Some l
-      → clock_in p.leaves k ≡ place_clock (placed p.leaves p.nodes (name_at t.leaves k) k l.signed l.width l.role)
+      → clock_in p.leaves k ≡ place_clock (placed p.leaves p.nodes p.readings (name_at t.leaves k) k l.signed l.width l.role)
   clock_at k l at = ap place_clock (is.places.leaves.each k l at)
 
   pub clock_input : (k : ℕ) (l : Leaf) → slice_get net.leaves k ≡ Some l → l.role ≡ role.Clock → IsClockInput net t k
@@ -70,7 +70,7 @@ module _ (net : FlatNet) (t : NameTable) (p : Places) (order : List Read) (is : 
       record { clock = first.clock; ends = handed_on j i l at (ap clock_driver e ∙ d) first.ends }
 
   role_ends : (j : ℕ) (l : Leaf) (r : Role) (k : ℕ) → slice_get net.leaves j ≡ Some l → l.role ≡ r
-      → ((w : Read) → Reads net (read.Leaf j) w → Ends w) → place_clock (placed p.leaves p.nodes (name_at t.leaves j) j l.signed l.width r) ≡ Some k
+      → ((w : Read) → Reads net (read.Leaf j) w → Ends w) → place_clock (placed p.leaves p.nodes p.readings (name_at t.leaves j) j l.signed l.width r) ≡ Some k
       → IsClockedBy net t j k
   role_ends j l role.Clock k at e below ends =
       let same : j ≡ k = cc in
@@ -94,14 +94,14 @@ module _ (net : FlatNet) (t : NameTable) (p : Places) (order : List Read) (is : 
 
   -- a clock leaf whose drivers end at a clock input has a clock
   handed_to : (j : ℕ) (r : Role) (s : Bool) (w k : ℕ) → clock_driver r ≡ Some (Some j)
-      → place_clock (placed p.leaves p.nodes (name_at t.leaves k) k s w r) ≡ clock_in p.leaves j
+      → place_clock (placed p.leaves p.nodes p.readings (name_at t.leaves k) k s w r) ≡ clock_in p.leaves j
   handed_to j (role.ClockOutput c) s w k d = let c_is : c ≡ Some j = cc in ap (driven_clock_in p.leaves) c_is
   handed_to j (role.ClockWire c) s w k d = let c_is : c ≡ Some j = cc in ap (driven_clock_in p.leaves) c_is
   handed_to j _ s w k d = absurd (cc)
 
   pub has_clock : (k : ℕ) → EndsAtInput net k → (c : ℕ) × (clock_in p.leaves k ≡ Some c)
   has_clock k (input i l at e) =
-      (i, clock_at i l at ∙ ap (λ (r : Role). place_clock (placed p.leaves p.nodes (name_at t.leaves i) i l.signed l.width r)) e)
+      (i, clock_at i l at ∙ ap (λ (r : Role). place_clock (placed p.leaves p.nodes p.readings (name_at t.leaves i) i l.signed l.width r)) e)
   has_clock k (handed_on i j l at d ends) =
       let first = has_clock j ends in
       (first.0, clock_at i l at ∙ handed_to j l.role l.signed l.width i d ∙ first.1)

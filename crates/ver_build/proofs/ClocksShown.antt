@@ -98,7 +98,7 @@ module _ (net : FlatNet) (t : NameTable) (p : Places) (order : List Read) (is : 
         let whole : IsRole net.leaves net.nodes l.signed l.width (role.ClockOutput c) =
         subst (IsRole net.leaves net.nodes l.signed l.width) same (leaf_at net t p order is k l at).driven in
         let clock : clock_in p.leaves k ≡ driven_clock_in p.leaves c =
-        clock_at net t p order is k l at ∙ ap (λ (r : Role). place_clock (placed p.leaves p.nodes (name_at t.leaves k) k l.signed l.width r)) same in
+        clock_at net t p order is k l at ∙ ap (λ (r : Role). place_clock (placed p.leaves p.nodes p.readings (name_at t.leaves k) k l.signed l.width r)) same in
         assign_found (clocks (in_parts net t p order)) (clock_assigns (in_parts net t p order))
         (record { target = name; rhs = clock_rhs t (driven_clock_in p.leaves c) }) (clock_targets_once net t p order is)
         (clock_assign_in k l c name at same named)

@@ -88,12 +88,12 @@ module _ (net : FlatNet) (t : NameTable) (p : Places) (order : List Read) where
       map_zipped (λ (a : Assign). a.target) (leaf_assign p) (λ l n. name_if (is_output l.role) n) (λ l n. output_target p l.role l.width n)
       (ordered_names net t) (ordered_leaves net)
 
-  pub targets_are : targets (assigns_of net t p order) ≡ map inner_name (inners net p order) ++ picked is_output (ordered_names net t) (ordered_leaves net)
+  pub targets_are : targets (assigns_of net t p order) ≡ map inner_name (inners net t p order) ++ picked is_output (ordered_names net t) (ordered_leaves net)
   targets_are =
       let target = λ (a : Assign). a.target in
-      let first : targets (map inner_assign (inners net p order)) ≡ map inner_name (inners net p order) =
-      map-map target inner_assign (inners net p order) in
-      map-append target (map inner_assign (inners net p order)) (output_assigns net t p order) ∙ rw (first, output_targets_are) refl
+      let first : targets (map inner_assign (inners net t p order)) ≡ map inner_name (inners net t p order) =
+      map-map target inner_assign (inners net t p order) in
+      map-append target (map inner_assign (inners net t p order)) (output_assigns net t p order) ∙ rw (first, output_targets_are) refl
 
   pub clock_targets_are : targets (clock_assigns_of net t p order) ≡ picked is_clock_output (ordered_names net t) (ordered_leaves net)
   clock_targets_are =

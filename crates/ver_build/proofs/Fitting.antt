@@ -47,6 +47,7 @@ use Rattle.ver_build.proofs.Sizes.{IsSized, LeafFact, leaf_is_sized, leaf_facts,
 use Rattle.ver_build.proofs.Words.{net_of}
 use Rattle.ver_build.proofs.ReadsStand.{whole_at, word_reset, read_stands}
 use Rattle.ver_build.proofs.InnersSound.{inner_sound, inner_size}
+use Rattle.ver_build.proofs.NoArrays.{inner_either}
 
 -- target and reads are among these names
 pub record Among (all : List (List ℕ)) (name : List ℕ) (reads : List (List ℕ)) : Type 0 where
@@ -145,7 +146,7 @@ module _ (net : FlatNet) (t : NameTable) (p : Places) (order : List Read) (is : 
   pub atom_among : (w : ℕ) (r : Read) → CanRead net.leaves net.nodes r → EachIn (atom_names (atom_at w (held_of p r))) (names_of (sizes net t p order))
   atom_among w r can = atom_known (names_of ns) w (held_of p r) (read_known r can)
 
-  order_reads : (i : Inner) → In (order_inners net p order) i → EachIn (rhs_names i.rhs) (names_of ns)
+  order_reads : (i : Inner) → In (order_inners net t p order) i → EachIn (rhs_names i.rhs) (names_of ns)
   order_reads i m =
       let o = inner_of net t p order is i m in
       let whole = whole_at net t p order is o.number o.node o.at in
@@ -157,18 +158,18 @@ module _ (net : FlatNet) (t : NameTable) (p : Places) (order : List Read) (is : 
       (all_reads (names_of ns) (names_of ns) xs (λ x k. k)
       (λ j k. named j.name j.width (inner_size net t p order is j (inners_among net t p order is o.number o.node o.netted o.at j k))) turn) i o.inside
 
-  inner_reads : (i : Inner) → In (inners net p order) i → EachIn (rhs_names i.rhs) (names_of ns)
+  inner_reads : (i : Inner) → In (inners net t p order) i → EachIn (rhs_names i.rhs) (names_of ns)
   inner_reads i m =
       ⊎_elim
-      (λ (o : In (order_inners net p order) i). order_reads i o)
+      (λ (o : In (order_inners net t p order) i). order_reads i o)
       (λ (r : In (reset_inners net p) i).
       let o = net_of net t p is.whole is.table i r in
       let can = (word_reset net t p order is o.number o.word o.reset o.has).condition in
       subst (λ (j : Inner). EachIn (rhs_names j.rhs) (names_of ns)) (sym o.is)
       (each_joined (atom_names (atom_at 1 (held_of p o.reset.condition))) [] (names_of ns) (atom_among 1 o.reset.condition can) tt))
-      (in_either (order_inners net p order) (reset_inners net p) i m)
+      (in_either (order_inners net t p order) (reset_inners net p) i (inner_either net is.whole is.writable.no_arrays t p order i m))
 
-  inner_fits : (i : Inner) → In (inners net p order) i → Fits ns (inner_assign i)
+  inner_fits : (i : Inner) → In (inners net t p order) i → Fits ns (inner_assign i)
   inner_fits i m =
       let size = inner_size net t p order is i m in
       let sound = inner_sound net t p order is i m in
@@ -192,8 +193,8 @@ module _ (net : FlatNet) (t : NameTable) (p : Places) (order : List Read) (is : 
 
   all_fit : AllByRecursion (Fits ns) (assigns_of net t p order)
   all_fit =
-      all_joined (Fits ns) (map inner_assign (inners net p order)) (zipped (leaf_assign p) (ordered_names net t) (ordered_leaves net))
-      (all_mapped (Fits ns) inner_assign (inners net p order) (all_from (λ i. Fits ns (inner_assign i)) (inners net p order) inner_fits))
+      all_joined (Fits ns) (map inner_assign (inners net t p order)) (zipped (leaf_assign p) (ordered_names net t) (ordered_leaves net))
+      (all_mapped (Fits ns) inner_assign (inners net t p order) (all_from (λ i. Fits ns (inner_assign i)) (inners net t p order) inner_fits))
       (all_zipped (LeafFact net ns) (Fits ns) (leaf_assign p) (λ l n h. role_fits l.signed l.role l.width n (leaf_is_sized ns l n h.0) h.1.driven)
       (ordered_names net t) (ordered_leaves net) (leaf_facts net t p order is))
 

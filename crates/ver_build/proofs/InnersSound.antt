@@ -24,6 +24,7 @@ use Rattle.ver_build.proofs.Sizes.{IsSized, inner_of, inner_among, inner_declare
 use Rattle.ver_build.proofs.Words.{NetOf, net_of}
 use Rattle.ver_build.proofs.OperandAtoms.{atom_fits}
 use Rattle.ver_build.proofs.ReadsStand.{whole_at, word_reset, read_stands, reads_stand}
+use Rattle.ver_build.proofs.NoArrays.{inner_either}
 
 module _ (net : FlatNet) (t : NameTable) (p : Places) (order : List Read) (is : Premises net t p order) where
   sound_by : (n : Node) (helpers : List (List ℕ)) (name : List ℕ) → IsNode net.leaves net.nodes n → 1 ≤ (node_type n).width
@@ -44,7 +45,7 @@ module _ (net : FlatNet) (t : NameTable) (p : Places) (order : List Read) (is : 
   node_sound k n h at =
       sound_by n (node_at p.nodes k).helpers h.name (whole_at net t p order is k n at) h.some (node_declared net t p order is k n h at)
 
-  order_sound : (i : Inner) → In (order_inners net p order) i → IsSoundInner (sizes net t p order) i
+  order_sound : (i : Inner) → In (order_inners net t p order) i → IsSoundInner (sizes net t p order) i
   order_sound i m =
       let o = inner_of net t p order is i m in
       all_at (IsSoundInner (sizes net t p order)) (node_inners p o.node (node_at p.nodes o.number).helpers o.netted.name)
@@ -58,14 +59,14 @@ module _ (net : FlatNet) (t : NameTable) (p : Places) (order : List Read) (is : 
       subst (IsSoundInner (sizes net t p order)) (sym o.is)
       (record { side = record { operands = (wide.operand, tt); widths = wide.wide }; some = omega arith; narrow = omega arith })
 
-  pub inner_sound : (i : Inner) → In (inners net p order) i → IsSoundInner (sizes net t p order) i
+  pub inner_sound : (i : Inner) → In (inners net t p order) i → IsSoundInner (sizes net t p order) i
   inner_sound i m =
       ⊎_elim
-      (λ (o : In (order_inners net p order) i). order_sound i o)
+      (λ (o : In (order_inners net t p order) i). order_sound i o)
       (λ (r : In (reset_inners net p) i). reset_sound i (net_of net t p is.whole is.table i r))
-      (in_either (order_inners net p order) (reset_inners net p) i m)
+      (in_either (order_inners net t p order) (reset_inners net p) i (inner_either net is.whole is.writable.no_arrays t p order i m))
 
-  pub inner_size : (i : Inner) → In (inners net p order) i → IsSized (sizes net t p order) i.name i.width
+  pub inner_size : (i : Inner) → In (inners net t p order) i → IsSized (sizes net t p order) i.name i.width
   inner_size i m =
       let sound = inner_sound i m in
       record { one = sound.some; narrow = sound.narrow; among = inner_among net t p order is i m; wide = inner_declared net t p order is i m }

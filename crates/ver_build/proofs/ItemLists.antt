@@ -68,11 +68,11 @@ clock_unless outs a n =
 
 module _ (rs ws : List Net) (xs cs : List Assign) (bs : List AlwaysBlock) where
   by_parts : {C : Type 0} → (f : Item → List C)
-      → flat_map f (items rs ws xs cs bs) ≡ flat_map f (map item.Reg rs) ++
+      → flat_map f (items rs [] ws xs cs bs) ≡ flat_map f (map item.Reg rs) ++
       (flat_map f (map item.Wire ws) ++ (flat_map f (map item.Assign xs) ++ (flat_map f (map item.Assign cs) ++ flat_map f (map block_item bs))))
   by_parts f = simp flat_map-append
 
-  pub registers_among : flat_map reg_net (items rs ws xs cs bs) ≡ map net_sized rs
+  pub registers_among : flat_map reg_net (items rs [] ws xs cs bs) ≡ map net_sized rs
   registers_among =
       by_parts reg_net ∙ rw (
         none_of reg_net item.Wire (λ x. refl) ws,
@@ -82,7 +82,7 @@ module _ (rs ws : List Net) (xs cs : List Assign) (bs : List AlwaysBlock) where
       )
       (append-nil (flat_map reg_net (map item.Reg rs)) ∙ each_of reg_net item.Reg net_sized (λ x. refl) rs)
 
-  pub wires_among : flat_map wire_net (items rs ws xs cs bs) ≡ map net_sized ws
+  pub wires_among : flat_map wire_net (items rs [] ws xs cs bs) ≡ map net_sized ws
   wires_among =
       by_parts wire_net ∙ rw (
         none_of wire_net item.Reg (λ x. refl) rs,
@@ -92,7 +92,7 @@ module _ (rs ws : List Net) (xs cs : List Assign) (bs : List AlwaysBlock) where
       )
       (append-nil (flat_map wire_net (map item.Wire ws)) ∙ each_of wire_net item.Wire net_sized (λ x. refl) ws)
 
-  pub nets_among : flat_map item_net (items rs ws xs cs bs) ≡ map net_sized rs ++ map net_sized ws
+  pub nets_among : flat_map item_net (items rs [] ws xs cs bs) ≡ map net_sized rs ++ map net_sized ws
   nets_among =
       by_parts item_net ∙ rw (
         none_of item_net item.Assign (λ x. refl) xs,
@@ -105,7 +105,7 @@ module _ (rs ws : List Net) (xs cs : List Assign) (bs : List AlwaysBlock) where
 
   -- the clock outputs are driven by assigns of their own
   module _ (outs : List (List ℕ)) (others : (a : Assign) → In xs a → In outs a.target → ⊥) (own : (a : Assign) → In cs a → In outs a.target) where
-    pub assigns_among : flat_map (item_assign outs) (items rs ws xs cs bs) ≡ xs
+    pub assigns_among : flat_map (item_assign outs) (items rs [] ws xs cs bs) ≡ xs
     assigns_among =
         by_parts (item_assign outs) ∙ rw (
           none_of (item_assign outs) item.Reg (λ x. refl) rs,
@@ -116,7 +116,7 @@ module _ (rs ws : List Net) (xs cs : List Assign) (bs : List AlwaysBlock) where
         (append-nil (flat_map (item_assign outs) (map item.Assign xs))
         ∙ each_among (item_assign outs) item.Assign (λ x. x) xs (λ a m. one_unless outs a (others a m)) ∙ same_map xs)
 
-    pub clock_assigns_among : flat_map (item_clock_assign outs) (items rs ws xs cs bs) ≡ cs
+    pub clock_assigns_among : flat_map (item_clock_assign outs) (items rs [] ws xs cs bs) ≡ cs
     clock_assigns_among =
         by_parts (item_clock_assign outs) ∙ rw (
           none_of (item_clock_assign outs) item.Reg (λ x. refl) rs,
@@ -127,7 +127,7 @@ module _ (rs ws : List Net) (xs cs : List Assign) (bs : List AlwaysBlock) where
         (append-nil (flat_map (item_clock_assign outs) (map item.Assign cs))
         ∙ each_among (item_clock_assign outs) item.Assign (λ x. x) cs (λ a m. clock_if outs a (own a m)) ∙ same_map cs)
 
-  pub arrays_among : flat_map item_array (items rs ws xs cs bs) ≡ []
+  pub arrays_among : flat_map item_array (items rs [] ws xs cs bs) ≡ []
   arrays_among =
       by_parts item_array ∙ rw (
         none_of item_array item.Reg (λ x. refl) rs,
@@ -138,7 +138,7 @@ module _ (rs ws : List Net) (xs cs : List Assign) (bs : List AlwaysBlock) where
       )
       refl
 
-  pub blocks_among : flat_map item_block (items rs ws xs cs bs) ≡ bs
+  pub blocks_among : flat_map item_block (items rs [] ws xs cs bs) ≡ bs
   blocks_among =
       by_parts item_block ∙ rw (
         none_of item_block item.Reg (λ x. refl) rs,

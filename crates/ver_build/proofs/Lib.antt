@@ -35,6 +35,12 @@ pub mod Driven
 pub mod Written
 pub mod StateWords
 pub mod Walk
+pub mod WriteLists
+pub mod GuardWalk
+pub mod NotedPlaces
+pub mod PlacesMade
+pub mod ReadingNets
+pub mod ReadingMeaning
 pub mod NotedNames
 pub mod ResetWalk
 pub mod NodeNames

@@ -35,7 +35,7 @@ builds values types one_choice one_rest net t p order whole writable ordered tab
     record { laws = record { values = values; types = types; one_choice = one_choice; one_rest = one_rest }; whole = whole; writable = writable; ordered = ordered; table = table; places = places; once = once; spelled = spelled; circuit = circuit } in
     let shapes = built_shape net t p order is in
     let valid = parts_valid net t p order is in
-    subst (Builds net) (sym (built_in_parts net t p order whole table))
+    subst (Builds net) (sym (built_in_parts net t p order whole writable.no_arrays table))
     (record {
       named = parts_named net t p order is;
       arranged = parts_arranged net t p order is;

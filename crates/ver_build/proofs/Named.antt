@@ -48,9 +48,9 @@ use Rattle.ver_build.proofs.Rowed.{kind, kinds_along, words_wide, ordered_for_ro
 
 module _ (net : FlatNet) (t : NameTable) (p : Places) (order : List Read) (is : Premises net t p order) where
   abbrev inside : List (List ℕ)
-  inside = map inner_name (inners net p order)
+  inside = map inner_name (inners net t p order)
 
-  spelled : AllByRecursion IsName (map inner_name (inners net p order))
+  spelled : AllByRecursion IsName (map inner_name (inners net t p order))
   spelled = inners_spelled net t p order is
 
   abbrev all_names : List (List ℕ)
@@ -164,9 +164,9 @@ module _ (net : FlatNet) (t : NameTable) (p : Places) (order : List Read) (is : 
 
   wires_inner : AreInner (leaf_names (in_parts net t p order)) 0 (names_of (wires (in_parts net t p order)))
   wires_inner =
-      rw (all_names_are, wires_sized net t p order, map-map (λ (s : SizedNet). s.0) inner_sized (inners net p order))
-      (are_inner (ordered_all net t) 0 is.places.resets.last (map inner_name (inners net p order))
-      (ordered_inner net t is.whole is.table 0 is.places.resets.last (map inner_name (inners net p order)) (inners_numbered net t p order is)))
+      rw (all_names_are, wires_sized net t p order, map-map (λ (s : SizedNet). s.0) inner_sized (inners net t p order))
+      (are_inner (ordered_all net t) 0 is.places.resets.last (map inner_name (inners net t p order))
+      (ordered_inner net t is.whole is.table 0 is.places.resets.last (map inner_name (inners net t p order)) (inners_numbered net t p order is)))
 
   pub parts_named : IsNamedFor net.name (net_rows net) (net_words net) (net_arrays net) (in_parts net t p order)
   parts_named = record {

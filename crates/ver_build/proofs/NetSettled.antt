@@ -43,9 +43,9 @@ use Rattle.ver_build.specs.working.Held.{held_number, own_held, whole_net, fit}
 use Rattle.ver_build.specs.working.Operands.{atom_at}
 use Rattle.ver_build.specs.working.Places.{bit_net, place_value, place_clock, placed, held_of, node_at, clock_in, driven_clock_in}
 use Rattle.ver_build.specs.working.Blocks.{reset_net}
-use Rattle.ver_build.specs.working.Built.{inners, order_inners, reset_inners, node_inners, inner_assign}
+use Rattle.ver_build.specs.working.Built.{inners, order_inners, reset_inners, node_inners, inner_assign, late_inners}
 use Rattle.ver_build.proofs.Premises.{Premises}
-use Rattle.ver_build.proofs.NoArrays.{no_reading}
+use Rattle.ver_build.proofs.NoArrays.{no_reading, inner_either}
 use Rattle.ver_build.proofs.TableLeaves.{leaf_named}
 use Rattle.ver_build.proofs.Parts.{in_parts}
 use Rattle.ver_build.proofs.LeafKinds.{is_wire, has_name, is_net}
@@ -64,6 +64,7 @@ use Rattle.ver_build.proofs.LeafValues.{AgreesLeaves, inputs_same, clocks_same}
 use Rattle.ver_build.proofs.NextStates.{shown_clock, Agrees, states_same}
 use Rattle.ver_build.proofs.SameConstants.{same_constant}
 use Rattle.ver_build.proofs.NodeValues.{leaf_values, nets_below, equation, has_type, leaves_fit, read_holds, node_valued}
+use Rattle.ver_build.specs.working.ArrayBlocks.{write_inners}
 
 abbrev pub leaf_clocks : NameTable → Places → Env → ℕ → Option ℕ
 leaf_clocks t p f k = shown_clock t f (clock_in p.leaves k)
@@ -86,7 +87,7 @@ module _ (net : FlatNet) (t : NameTable) (p : Places) (order : List Read) (is : 
   ns = sizes net t p order
 
   value_is : (k : ℕ) (l : Leaf) → slice_get net.leaves k ≡ Some l
-      → e k ≡ held_number f (place_value (placed p.leaves p.nodes (name_at t.leaves k) k l.signed l.width l.role))
+      → e k ≡ held_number f (place_value (placed p.leaves p.nodes p.readings (name_at t.leaves k) k l.signed l.width l.role))
   value_is k l at = ap (λ x. held_number f (place_value x)) (is.places.leaves.each k l at)
 
   sized_at : (k : ℕ) (l : Leaf) (n : List ℕ) → slice_get net.leaves k ≡ Some l → is_net l.role ≡ true → name_at t.leaves k ≡ Some n
@@ -102,7 +103,7 @@ module _ (net : FlatNet) (t : NameTable) (p : Places) (order : List Read) (is : 
 
   driven_value : (k : ℕ) (l : Leaf) (d : Role) (r : Read) → slice_get net.leaves k ≡ Some l → IsRole net.leaves net.nodes l.signed l.width d
       → driver d ≡ Some r
-      → held_number f (place_value (placed p.leaves p.nodes (name_at t.leaves k) k l.signed l.width d)) ≡ at_width
+      → held_number f (place_value (placed p.leaves p.nodes p.readings (name_at t.leaves k) k l.signed l.width d)) ≡ at_width
       (value_at net (leaf_values p f) r) l.width
   driven_value k l (role.Output s) r at drives is_driver =
       let same : s ≡ r = cc in rw same (fitted_value k l r at (subst (CanRead net.leaves net.nodes) same drives.can))
@@ -142,11 +143,11 @@ module _ (net : FlatNet) (t : NameTable) (p : Places) (order : List Read) (is : 
       → name_at t.leaves k ≡ Some n → f n ≡ leaf_values p f k
   agreed_value k l role.Input n at same plain named =
       own_value k l n at (ap is_net same) named
-      ∙ sym (value_is k l at ∙ ap (λ (d : Role). held_number f (place_value (placed p.leaves p.nodes (name_at t.leaves k) k l.signed l.width d)))
+      ∙ sym (value_is k l at ∙ ap (λ (d : Role). held_number f (place_value (placed p.leaves p.nodes p.readings (name_at t.leaves k) k l.signed l.width d)))
       same)
   agreed_value k l (role.Register r) n at same plain named =
       own_value k l n at (ap is_net same) named
-      ∙ sym (value_is k l at ∙ ap (λ (d : Role). held_number f (place_value (placed p.leaves p.nodes (name_at t.leaves k) k l.signed l.width d)))
+      ∙ sym (value_is k l at ∙ ap (λ (d : Role). held_number f (place_value (placed p.leaves p.nodes p.readings (name_at t.leaves k) k l.signed l.width d)))
       same)
   agreed_value k l (role.Output r) n at same plain named = output_value k l r n at same named
   agreed_value k l (role.Wire r) n at same plain named =
@@ -169,7 +170,7 @@ module _ (net : FlatNet) (t : NameTable) (p : Places) (order : List Read) (is : 
           → Some (f n) ≡ leaf_clocks t p f k
       clock_number k l n at same named =
           let root : clock_in p.leaves k ≡ Some k =
-          clock_at net t p order is k l at ∙ ap (λ (r : Role). place_clock (placed p.leaves p.nodes (name_at t.leaves k) k l.signed l.width r)) same
+          clock_at net t p order is k l at ∙ ap (λ (r : Role). place_clock (placed p.leaves p.nodes p.readings (name_at t.leaves k) k l.signed l.width r)) same
           in
           sym (ap (shown_clock t f) root ∙ ap (λ o. Some (f (unwrap_or o []))) named)
 
@@ -186,7 +187,7 @@ module _ (net : FlatNet) (t : NameTable) (p : Places) (order : List Read) (is : 
   driven_shown (Some k) = refl
 
   role_clock : (k : ℕ) (signed : Bool) (w : ℕ) (d : Role) (c : Option ℕ) → clock_driver d ≡ Some c
-      → shown_clock t f (place_clock (placed p.leaves p.nodes (name_at t.leaves k) k signed w d)) ≡ driven_clock (leaf_clocks t p f) c
+      → shown_clock t f (place_clock (placed p.leaves p.nodes p.readings (name_at t.leaves k) k signed w d)) ≡ driven_clock (leaf_clocks t p f) c
   role_clock k signed w (role.ClockOutput x) c drives = let same : x ≡ c = cc in driven_shown x ∙ ap (driven_clock (leaf_clocks t p f)) same
   role_clock k signed w (role.ClockWire x) c drives = let same : x ≡ c = cc in driven_shown x ∙ ap (driven_clock (leaf_clocks t p f)) same
   role_clock k signed w _ c drives = absurd (cc)
@@ -207,7 +208,8 @@ module _ (net : FlatNet) (t : NameTable) (p : Places) (order : List Read) (is : 
       let i = net_inner p r name in
       let v = value_at net (leaf_values p f) r.condition in
       let among =
-      in_right (order_inners net p order) (reset_inners net p) i (net_in net t p k m w r name has named) in
+      in_right (order_inners net t p order) (late_inners net p) i
+      (in_left (reset_inners net p) (write_inners net p) i (net_in net t p k m w r name has named)) in
       equation net t p order is state tick f rest (inner_assign i) 1 (inner_assign_in net t p order is i among) (inner_among net t p order is i among)
       ∙ source_value r.condition (word_reset net t p order is k w r has).condition 1 (omega arith) (omega arith)
       ∙ ap (λ (n : ℕ). fitted v.signed n v.value.number 1) (condition_bit k w r has) ∙ fitted-own v.signed 1 v.value.number
@@ -299,29 +301,29 @@ module _ (net : FlatNet) (t : NameTable) (p : Places) (order : List Read) (is : 
       clocks_driven = clocks_driven;
     }
 
-  order_valued : (i : Inner) (w : ℕ) → In (order_inners net p order) i → In ns (i.name, w) → IsSome (side_value ns f w i.rhs)
+  order_valued : (i : Inner) (w : ℕ) → In (order_inners net t p order) i → In ns (i.name, w) → IsSome (side_value ns f w i.rhs)
   order_valued i w m n =
       let o = inner_of net t p order is i m in
       let xs = node_inners p o.node (node_at p.nodes o.number).helpers o.netted.name in
       let once = sizes_once net t p order is in
-      let declared = inner_declared net t p order is i (in_left (order_inners net p order) (reset_inners net p) i m) in
+      let declared = inner_declared net t p order is i (in_left (order_inners net t p order) (late_inners net p) i m) in
       let width : i.width ≡ w = sym declared ∙ declared_width ns once i.name w n in
       subst (λ (v : ℕ). IsSome (side_value ns f v i.rhs)) width
       (all_at (λ (j : Inner). IsSome (side_value ns f j.width j.rhs)) xs
       (node_valued net t p order is state tick f rest o.number o.node o.netted o.at) i o.inside)
 
-  inner_valued : (i : Inner) (w : ℕ) → In (inners net p order) i → In ns (i.name, w) → IsSome (side_value ns f w i.rhs)
+  inner_valued : (i : Inner) (w : ℕ) → In (inners net t p order) i → In ns (i.name, w) → IsSome (side_value ns f w i.rhs)
   inner_valued i w m n =
       ⊎_elim
-      (λ (o : In (order_inners net p order) i). order_valued i w o n)
+      (λ (o : In (order_inners net t p order) i). order_valued i w o n)
       (λ (r : In (reset_inners net p) i).
       let o = net_of net t p is.whole is.table i r in some_atom ns f w (atom_at 1 (held_of p o.reset.condition)) i.rhs (ap (λ (j : Inner). j.rhs) (sym o.is)))
-      (in_either (order_inners net p order) (reset_inners net p) i m)
+      (in_either (order_inners net t p order) (reset_inners net p) i (inner_either net is.whole is.writable.no_arrays t p order i m))
 
   valued : (a : Assign) (w : ℕ) → In (assigns (in_parts net t p order)) a → In ns (a.target, w) → IsSome (side_value ns f w a.rhs)
   valued a w m n =
       ⊎_elim
-      (λ (x : (i : Inner) × In (inners net p order) i × (inner_assign i ≡ a)).
+      (λ (x : (i : Inner) × In (inners net t p order) i × (inner_assign i ≡ a)).
       subst (λ (b : Assign). In ns (b.target, w) → IsSome (side_value ns f w b.rhs)) x.2 (λ j. inner_valued x.0 w x.1 j) n)
       (λ (o : OutputAssign net t p a). some_atom ns f w (atom_at o.leaf.width (held_of p o.source)) a.rhs o.right)
       (assign_from net t p order is a m)

@@ -35,7 +35,7 @@ inner_name i = i.name
 
 -- the nets of the tree
 abbrev pub sizes : FlatNet → NameTable → Places → List Read → List SizedNet
-sizes net t p order = picked_sized is_net (ordered_names net t) (ordered_leaves net) ++ map inner_sized (inners net p order)
+sizes net t p order = picked_sized is_net (ordered_names net t) (ordered_leaves net) ++ map inner_sized (inners net t p order)
 
 net_names : (ns : List Net) → names_of (map net_sized ns) ≡ map (λ (n : Net). n.name) ns
 net_names [] = refl
@@ -182,10 +182,10 @@ module _ (net : FlatNet) (t : NameTable) (p : Places) (order : List Read) where
       registers_among (registers_of net t p order) (wires_of net t p order) (assigns_of net t p order) (clock_assigns_of net t p order) (blocks_of net t p order)
       ∙ map_zipped net_sized leaf_reg (λ l n. sized_if (is_register l.role) l.width n) (λ l n. register_part l.role l.width n) (ordered_names net t) (ordered_leaves net)
 
-  pub wires_sized : wires (in_parts net t p order) ≡ map inner_sized (inners net p order)
+  pub wires_sized : wires (in_parts net t p order) ≡ map inner_sized (inners net t p order)
   wires_sized =
       wires_among (registers_of net t p order) (wires_of net t p order) (assigns_of net t p order) (clock_assigns_of net t p order) (blocks_of net t p order)
-      ∙ map-map net_sized inner_wire (inners net p order)
+      ∙ map-map net_sized inner_wire (inners net t p order)
 
   pub no_arrays : arrays (in_parts net t p order) ≡ []
   no_arrays = arrays_among (registers_of net t p order) (wires_of net t p order) (assigns_of net t p order) (clock_assigns_of net t p order) (blocks_of net t p order)
@@ -194,10 +194,10 @@ module _ (net : FlatNet) (t : NameTable) (p : Places) (order : List Read) where
   blocks_are = blocks_among (registers_of net t p order) (wires_of net t p order) (assigns_of net t p order) (clock_assigns_of net t p order) (blocks_of net t p order)
 
   -- the names of the nets
-  pub sizes_named : names_of (sizes net t p order) ≡ picked is_net (ordered_names net t) (ordered_leaves net) ++ map inner_name (inners net p order)
+  pub sizes_named : names_of (sizes net t p order) ≡ picked is_net (ordered_names net t) (ordered_leaves net) ++ map inner_name (inners net t p order)
   sizes_named =
-      map-append (λ (s : SizedNet). s.0) (picked_sized is_net (ordered_names net t) (ordered_leaves net)) (map inner_sized (inners net p order))
-      ∙ rw (picked_names is_net (ordered_names net t) (ordered_leaves net), map-map (λ (s : SizedNet). s.0) inner_sized (inners net p order)) refl
+      map-append (λ (s : SizedNet). s.0) (picked_sized is_net (ordered_names net t) (ordered_leaves net)) (map inner_sized (inners net t p order))
+      ∙ rw (picked_names is_net (ordered_names net t) (ordered_leaves net), map-map (λ (s : SizedNet). s.0) inner_sized (inners net t p order)) refl
 
   module _ (is : Premises net t p order) where
     nets_together : picked_sized is_signal (ordered_names net t) (ordered_leaves net) ++ picked_sized is_register (ordered_names net t) (ordered_leaves net) ≡ picked_sized is_net (ordered_names net t) (ordered_leaves net)
@@ -224,8 +224,8 @@ module _ (net : FlatNet) (t : NameTable) (p : Places) (order : List Read) where
         ap (λ ns. port_nets (in_parts net t p order) ++ ns) inside
         ∙ rw (signals_sized, registers_sized, wires_sized)
         (sym (append_assoc (picked_sized is_signal (ordered_names net t) (ordered_leaves net)) (picked_sized is_register (ordered_names net t) (ordered_leaves net))
-        (map inner_sized (inners net p order)))
-        ∙ ap (λ ns. ns ++ map inner_sized (inners net p order)) nets_together)
+        (map inner_sized (inners net t p order)))
+        ∙ ap (λ ns. ns ++ map inner_sized (inners net t p order)) nets_together)
 
     -- the names of the nets: those of ports, of registers and of wires
     pub nets_by_part : names_of (sizes net t p order) ≡ names_of (port_nets (in_parts net t p order)) ++

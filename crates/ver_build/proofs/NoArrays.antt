@@ -1,10 +1,11 @@
--- A net without arrays reads none, and its state, the state after a tick and its rows have none.
+-- A net without arrays reads none, and its state, the state after a tick, its rows and its tree have none.
 use Rattle.std.proofs.Common.{◌≡◌, ℕ, zero, List, [], ◌∷◌, ◌++◌, map, append-nil, refl, sym, ap, ◌∙◌, subst}
 use Rattle.std.specs.Prelude.{flat_map, slice_get, Option, Some, None}
 use Rattle.fir_base.specs.Ticks.{Tick}
 use Rattle.fir_net.specs.declared.array.Array.{Array}
 use Rattle.fir_net.specs.declared.array.ArrayRead.{ArrayRead}
 use Rattle.fir_net.specs.declared.leaf.Role.TheVariants as role
+use Rattle.fir_net.specs.declared.reads.Read.TheVariants as read
 use Rattle.fir_net.specs.declared.leaf.Leaf.{Leaf}
 use Rattle.fir_net.specs.declared.net.FlatNet.{FlatNet}
 use Rattle.fir_net.specs.Rows.{ArrayRow}
@@ -14,6 +15,17 @@ use Rattle.fir_net.specs.working.Next.{array_after, next, next_word, words_next}
 use Rattle.fir_net.specs.working.Rows.{array_row, net_arrays}
 use Rattle.fir_net.specs.working.Settled.{registers, shape}
 use Rattle.fir_net.specs.working.Values.{leaf_width}
+use Rattle.fir_net.specs.declared.leaf.Role.{Role}
+use Rattle.fir_net_names.specs.declared.name_table.NameTable.{NameTable}
+use Rattle.fir_net_names.specs.working.LeafNamed.{name_at}
+use Rattle.ver_build.specs.declared.places.NodePlace.{NodePlace}
+use Rattle.ver_build.specs.declared.places.Places.{Places}
+use Rattle.ver_build.specs.declared.right_sides.Inner.{Inner}
+use Rattle.ver_build.specs.working.Places.{node_at, role_names, leaf_names_at, read_names}
+use Rattle.ver_build.specs.working.Built.{role_inners, leaf_inners, read_inners, reset_inners, late_inners, inners, order_inners}
+use Rattle.ver_build.specs.working.ArrayBlocks.{tree_array, tree_arrays, array_write_inners, write_inners, array_block, array_blocks}
+use Rattle.fir_base.specs.Lists.{In}
+use Rattle.fir_net.specs.declared.reads.Read.{Read}
 
 empty : (ks : List ℕ) → ((n k : ℕ) → slice_get ks n ≡ Some k → ⊥) → ks ≡ []
 empty [] h = refl
@@ -42,3 +54,42 @@ module _ (net : FlatNet) (whole : IsNet net) (none : net.arrays ≡ []) where
 
   pub no_rows : net_arrays net ≡ []
   no_rows = ap (flat_map (λ k. array_row (slice_get net.arrays k))) no_order
+
+  no_role_inners : (t : NameTable) (p : Places) (k : ℕ) (l : Leaf) (d : Role) (at : NodePlace) → slice_get net.leaves k ≡ Some l → l.role ≡ d
+      → role_inners net t p l.width d at ≡ []
+  no_role_inners t p k l (role.Reading r) at there same = absurd (no_reading k l r there same)
+  no_role_inners t p k l _ at there same = refl
+
+  pub no_leaf_inners : (t : NameTable) (p : Places) (k : ℕ) → read_inners net t p (read.Leaf k) ≡ []
+  no_leaf_inners t p k = by (slice_get net.leaves k) refl
+    where
+      by : (o : Option Leaf) → slice_get net.leaves k ≡ o → leaf_inners net t p o (node_at p.readings k) ≡ []
+      by None e = refl
+      by (Some l) e = no_role_inners t p k l l.role (node_at p.readings k) e refl
+
+  pub no_leaf_names : (nodes readings : List NodePlace) (k : ℕ) → read_names net nodes readings (read.Leaf k) ≡ []
+  no_leaf_names nodes readings k = by (slice_get net.leaves k) refl
+    where
+      of_role : (l : Leaf) (d : Role) → slice_get net.leaves k ≡ Some l → l.role ≡ d → role_names d (node_at readings k) ≡ []
+      of_role l (role.Reading r) there same = absurd (no_reading k l r there same)
+      of_role l _ there same = refl
+
+      by : (o : Option Leaf) → slice_get net.leaves k ≡ o → leaf_names_at o (node_at readings k) ≡ []
+      by None e = refl
+      by (Some l) e = of_role l l.role e refl
+
+  pub no_writes : (p : Places) → write_inners net p ≡ []
+  no_writes p = ap (flat_map (λ k. array_write_inners net p k (slice_get net.arrays k))) no_order
+
+  pub late_are : (p : Places) → late_inners net p ≡ reset_inners net p
+  late_are p = ap (λ (xs : List Inner). reset_inners net p ++ xs) (no_writes p) ∙ append-nil (reset_inners net p)
+
+  pub no_tree_arrays : (t : NameTable) → tree_arrays net t ≡ []
+  no_tree_arrays t = ap (flat_map (λ k. tree_array (slice_get net.arrays k) (name_at t.arrays k))) no_order
+
+  pub no_array_blocks : (t : NameTable) (p : Places) → array_blocks net t p ≡ []
+  no_array_blocks t p = ap (flat_map (λ k. array_block net t p k (slice_get net.arrays k) (name_at t.arrays k))) no_order
+
+  pub inner_either : (t : NameTable) (p : Places) (order : List Read) (i : Inner) → In (inners net t p order) i
+      → In (order_inners net t p order ++ reset_inners net p) i
+  inner_either t p order i m = subst (λ (xs : List Inner). In (order_inners net t p order ++ xs) i) (late_are p) m

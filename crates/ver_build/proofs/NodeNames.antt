@@ -26,7 +26,7 @@ not_equal v u other = cond_both {A = Bool} (nat_eq v u) true false (λ _. nat_eq
 
 -- the place of a value with bits, whose own name follows on the others
 pub own_named : (t : NameTable) (count : ℕ) (signed : Bool) (w from next number : ℕ) (names : List (List ℕ)) (name : List ℕ) (held : Held)
-    → count ≤ 3 → (w ≡ 0 → ⊥)
+    → count ≤ 4 → (w ≡ 0 → ⊥)
     → AreHelpers t count from names next → IsInner (table_names t) next number → name ≡ inner_name number → IsName name → number + 1 ≤ next + 2 ^ 63
     → held ≡ whole_net name signed w
     → IsOwnPlace t count signed w from (record { held = held; helpers = names }) (number + 1)

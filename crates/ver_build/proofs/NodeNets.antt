@@ -29,6 +29,7 @@ use Rattle.ver_build.specs.working.Built.{order_inners, node_inners, placed_inne
 use Rattle.ver_build.proofs.Lists.{flat_mapped}
 use Rattle.ver_build.proofs.NodeMeaning.{operation_names}
 use Rattle.ver_build.proofs.Nets.{inner_name}
+use Rattle.fir_net_names.specs.declared.name_table.NameTable.{NameTable}
 
 -- a literal
 pub record IsLiteral (n : Node) (at : NodePlace) : Type 0 where
@@ -143,9 +144,9 @@ given_named p n at is =
     o)
     (node_view p n at is)
 
-module _ (net : FlatNet) (p : Places) (held : AreNodesHeld net p.nodes) where
-  read_named : (r : Read) → map inner_name (read_inners net p r) ≡ read_names net p.nodes r
-  read_named (read.Leaf k) = refl
+module _ (net : FlatNet) (t : NameTable) (p : Places) (held : AreNodesHeld net p.nodes) (leaf_named : (k : ℕ) → map inner_name (read_inners net t p (read.Leaf k)) ≡ read_names net p.nodes p.readings (read.Leaf k)) where
+  read_named : (r : Read) → map inner_name (read_inners net t p r) ≡ read_names net p.nodes p.readings r
+  read_named (read.Leaf k) = leaf_named k
   read_named (read.Node k) = by_node (slice_get net.nodes k) refl
     where
       by_node : (o : Option Node) → slice_get net.nodes k ≡ o
@@ -154,5 +155,5 @@ module _ (net : FlatNet) (p : Places) (held : AreNodesHeld net p.nodes) where
       by_node (Some n) e = given_named p n (node_at p.nodes k) (held.each k n e)
 
   -- the nets of nodes have the inner names
-  pub order_named : (order : List Read) → map inner_name (order_inners net p order) ≡ inner_names net p.nodes order
-  order_named order = flat_mapped inner_name (read_inners net p) (read_names net p.nodes) read_named order
+  pub order_named : (order : List Read) → map inner_name (order_inners net t p order) ≡ inner_names net p.nodes p.readings order
+  order_named order = flat_mapped inner_name (read_inners net t p) (read_names net p.nodes p.readings) read_named order

@@ -28,6 +28,7 @@ arranged_too v places h = record {
   after_what_is_read = h.after_what_is_read;
   clock_assigns_in_order = h.clock_assigns_in_order;
   with_block = h.with_block;
+  with_writes = h.with_writes;
   blocks_in_order = h.blocks_in_order;
 }
 

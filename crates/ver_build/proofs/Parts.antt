@@ -1,5 +1,5 @@
 -- The tree of a net in parts: ports, then registers, wires, assigns and blocks, those of leaves along the names in their order, and blocks in that of the state.
-use Rattle.std.proofs.Common.{◌≡◌, ℕ, List, [], ◌++◌, map, true, false, refl}
+use Rattle.std.proofs.Common.{◌≡◌, ℕ, List, [], ◌++◌, map, append-nil, true, false, refl}
 use Rattle.std.specs.Prelude.{Option, Some, None}
 use Rattle.fir_net.specs.declared.reads.Read.{Read}
 use Rattle.fir_net.specs.declared.leaf.Role.{Role}
@@ -19,6 +19,7 @@ use Rattle.ver_build.specs.declared.right_sides.Inner.{Inner}
 use Rattle.ver_build.specs.working.Built.{built, inners, items, leaf_port, port_of, leaf_reg, role_reg, leaf_assign, role_assign, leaf_clock_assign, role_clock_assign, word_blocks, inner_wire, inner_assign}
 use Rattle.ver_build.proofs.Names.{zipped}
 use Rattle.ver_build.proofs.OrderedLeaves.{ordered_names, ordered_leaves, OfPorts, OfWords, port_given, word_given}
+use Rattle.ver_build.proofs.NoArrays.{no_tree_arrays, no_array_blocks}
 
 port_inside : (r : Role) (w : ℕ) (name : List ℕ) → is_port r ≡ false → port_of r w name ≡ []
 port_inside (role.Register d) w name e = refl
@@ -73,7 +74,7 @@ regs_word = record { ports = λ l n e. reg_ports l.role l.width n e }
 
 module _ (net : FlatNet) (t : NameTable) (p : Places) (order : List Read) where
   abbrev pub inners_of : List Inner
-  inners_of = inners net p order
+  inners_of = inners net t p order
 
   abbrev pub ports_of : List Port
   ports_of = zipped leaf_port (ordered_names net t) (ordered_leaves net)
@@ -97,12 +98,15 @@ module _ (net : FlatNet) (t : NameTable) (p : Places) (order : List Read) where
   blocks_of = word_blocks net t p
 
   abbrev pub in_parts : Verilog
-  in_parts = record { name = t.circuit; ports = ports_of; items = items registers_of wires_of assigns_of clock_assigns_of blocks_of; places = [] }
+  in_parts = record { name = t.circuit; ports = ports_of; items = items registers_of [] wires_of assigns_of clock_assigns_of blocks_of; places = [] }
 
-  pub built_in_parts : IsNet net → IsTable net t → built net t p order ≡ in_parts
+  pub built_in_parts : IsNet net → net.arrays ≡ [] → IsTable net t → built net t p order ≡ in_parts
   unfolding built
-  built_in_parts whole table =
+  built_in_parts whole none table =
       rw (
+        no_tree_arrays net whole none t,
+        no_array_blocks net whole none t p,
+        append-nil (word_blocks net t p),
         port_given net t whole table leaf_port ports_port,
         word_given net t whole table leaf_reg regs_word,
         port_given net t whole table (leaf_assign p) (assigns_port p),

@@ -33,6 +33,7 @@ use Rattle.ver_build.proofs.OperandNames.{fit_known}
 use Rattle.ver_build.proofs.NodeNets.{IsLiteral, IsEmpty, IsNetted, node_view, given_inners, no_inners, empty_inners, netted_inners}
 use Rattle.ver_build.proofs.ReadsStand.{leaf_read}
 use Rattle.ver_build.proofs.Fitting.{node_reads}
+use Rattle.ver_build.proofs.NoArrays.{no_reading}
 
 -- the process of an inner net
 abbrev pub inner_process : Inner → Process
@@ -80,13 +81,14 @@ module _ (net : FlatNet) (t : NameTable) (p : Places) (order : List Read) (is : 
   role_known : (known : List (List ℕ)) (k : ℕ) (l : Leaf) (r : Role) → slice_get net.leaves k ≡ Some l → l.role ≡ r
       → (has_own r ≡ true → (name : List ℕ) → name_at t.leaves k ≡ Some name → In known name)
       → ((w : Read) → Reads net (read.Leaf k) w → IsKnown known (held_of p w))
-      → IsKnown known (place_value (placed p.leaves p.nodes (name_at t.leaves k) k l.signed l.width r))
+      → IsKnown known (place_value (placed p.leaves p.nodes p.readings (name_at t.leaves k) k l.signed l.width r))
   role_known known k l role.Input at e own below = own_known known l.signed l.width (name_at t.leaves k) (own refl)
   role_known known k l (role.Register r) at e own below = own_known known l.signed l.width (name_at t.leaves k) (own refl)
   role_known known k l (role.Output r) at e own below =
       fit_known known (held_of p r).signed l.width (held_of p r).source (below r (leaf_read net k l (role.Output r) 0 r at e refl))
   role_known known k l (role.Wire r) at e own below =
       fit_known known (held_of p r).signed l.width (held_of p r).source (below r (leaf_read net k l (role.Wire r) 0 r at e refl))
+  role_known known k l (role.Reading r) at e own below = absurd (no_reading net is.whole is.writable.no_arrays k l r at e)
   role_known known k l _ at e own below = tt
 
   -- where what a leaf hangs on is known, and its own name, its value is known
@@ -115,7 +117,7 @@ module _ (net : FlatNet) (t : NameTable) (p : Places) (order : List Read) (is : 
       → ReadsBefore known (at_leaf k ++ more)) where
     abbrev pub given_at : Read → List Process
     given_at (read.Leaf k) = at_leaf k
-    given_at (read.Node k) = map inner_process (read_inners net p (read.Node k))
+    given_at (read.Node k) = map inner_process (read_inners net t p (read.Node k))
 
     -- the sources, and the nets of what has been passed
     record Knows (known : List (List ℕ)) (before : List Read) : Type 0 where

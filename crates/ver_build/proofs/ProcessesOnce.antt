@@ -38,6 +38,7 @@ use Rattle.ver_build.proofs.Placed.{inner_process}
 use Rattle.ver_build.proofs.ShownWords.{HasShown, leaf_shown, word_resetting, given_is, shown_view}
 use Rattle.ver_build.proofs.ProcessOrder.{process_order, processes_ordered}
 use Rattle.ver_build.proofs.AllProcesses.{come, word_net, word_net_is, each, only}
+use Rattle.ver_build.proofs.NoArrays.{late_are}
 
 register_no_output : (r : Role) → is_register r ≡ true → is_output r ≡ true → ⊥
 register_no_output (role.Register r) a b = cc
@@ -49,7 +50,7 @@ module _ (net : FlatNet) (t : NameTable) (p : Places) (order : List Read) (is : 
   come_names r = map target (come net t p order is r)
 
   abbrev node_names : Read → List (List ℕ)
-  node_names r = map inner_name (read_inners net p r)
+  node_names r = map inner_name (read_inners net t p r)
 
   abbrev net_names : ℕ → List (List ℕ)
   net_names k = map inner_name (word_net net t p order is k)
@@ -58,22 +59,23 @@ module _ (net : FlatNet) (t : NameTable) (p : Places) (order : List Read) (is : 
   own_names xs = map-map target inner_process xs
 
   -- those of all nodes, and of all resets
-  nodes_are : map inner_name (order_inners net p order) ≡ flat_map node_names order
-  nodes_are = flat_mapped inner_name (read_inners net p) node_names (λ r. refl) order
+  nodes_are : map inner_name (order_inners net t p order) ≡ flat_map node_names order
+  nodes_are = flat_mapped inner_name (read_inners net t p) node_names (λ r. refl) order
 
   resets_are : map inner_name (reset_inners net p) ≡ flat_map net_names net.state
   resets_are = flat_mapped inner_name (word_net net t p order is) net_names (λ k. refl) net.state
 
-  inners_once : Distinct (map inner_name (order_inners net p order) ++ map inner_name (reset_inners net p))
+  inners_once : Distinct (map inner_name (order_inners net t p order) ++ map inner_name (reset_inners net p))
   inners_once =
-      subst Distinct (map-append inner_name (order_inners net p order) (reset_inners net p))
-      (distinct_right (ordered_all net t) (map inner_name (inners net p order)) (names_once net t p order is))
+      subst Distinct (ap (λ (xs : List Inner). map inner_name (order_inners net t p order ++ xs)) (late_are net is.whole is.writable.no_arrays p)
+      ∙ map-append inner_name (order_inners net t p order) (reset_inners net p))
+      (distinct_right (ordered_all net t) (map inner_name (inners net t p order)) (names_once net t p order is))
 
   nodes_once : Distinct (flat_map node_names order)
-  nodes_once = subst Distinct nodes_are (distinct_left (map inner_name (order_inners net p order)) (map inner_name (reset_inners net p)) inners_once)
+  nodes_once = subst Distinct nodes_are (distinct_left (map inner_name (order_inners net t p order)) (map inner_name (reset_inners net p)) inners_once)
 
   resets_once : Distinct (flat_map net_names net.state)
-  resets_once = subst Distinct resets_are (distinct_right (map inner_name (order_inners net p order)) (map inner_name (reset_inners net p)) inners_once)
+  resets_once = subst Distinct resets_are (distinct_right (map inner_name (order_inners net t p order)) (map inner_name (reset_inners net p)) inners_once)
 
   -- a name at a word: of the net of its reset, or its own
   record IsWordName (k : ℕ) (x : List ℕ) : Type 0 where
@@ -106,30 +108,31 @@ module _ (net : FlatNet) (t : NameTable) (p : Places) (order : List Read) (is : 
       (shown_view net t p is.whole is.table k l.0 l.1)
 
   node_name : (k : ℕ) (x : List ℕ) → In (come_names (read.Node k)) x → In (node_names (read.Node k)) x
-  node_name k x m = subst (λ (ns : List (List ℕ)). In ns x) (own_names (read_inners net p (read.Node k))) m
+  node_name k x m = subst (λ (ns : List (List ℕ)). In ns x) (own_names (read_inners net t p (read.Node k))) m
 
   -- names of nodes, of the nets of resets, and of registers have none in common
-  among_nodes : (k : ℕ) (x : List ℕ) → In order (read.Node k) → In (node_names (read.Node k)) x → In (map inner_name (order_inners net p order)) x
+  among_nodes : (k : ℕ) (x : List ℕ) → In order (read.Node k) → In (node_names (read.Node k)) x → In (map inner_name (order_inners net t p order)) x
   among_nodes k x there_is m =
       subst (λ (ns : List (List ℕ)). In ns x) (sym nodes_are) (in_flat_map node_names order (read.Node k) x there_is m)
 
   among_resets : (k : ℕ) (x : List ℕ) → In net.state k → In (net_names k) x → In (map inner_name (reset_inners net p)) x
   among_resets k x m n = subst (λ (ns : List (List ℕ)). In ns x) (sym resets_are) (in_flat_map net_names net.state k x m n)
 
-  among_inners : (x : List ℕ) → In (map inner_name (order_inners net p order)) x ⊎ In (map inner_name (reset_inners net p)) x
-      → In (map inner_name (inners net p order)) x
+  among_inners : (x : List ℕ) → In (map inner_name (order_inners net t p order)) x ⊎ In (map inner_name (reset_inners net p)) x
+      → In (map inner_name (inners net t p order)) x
   among_inners x m =
-      subst (λ (ns : List (List ℕ)). In ns x) (sym (map-append inner_name (order_inners net p order) (reset_inners net p)))
+      subst (λ (ns : List (List ℕ)). In ns x) (sym (ap (λ (xs : List Inner). map inner_name (order_inners net t p order ++ xs)) (late_are net is.whole is.writable.no_arrays p)
+      ∙ map-append inner_name (order_inners net t p order) (reset_inners net p)))
       (⊎_elim
-      (λ (a : In (map inner_name (order_inners net p order)) x). in_left (map inner_name (order_inners net p order)) (map inner_name (reset_inners net p)) x a)
-      (λ (b : In (map inner_name (reset_inners net p)) x). in_right (map inner_name (order_inners net p order)) (map inner_name (reset_inners net p)) x b)
+      (λ (a : In (map inner_name (order_inners net t p order)) x). in_left (map inner_name (order_inners net t p order)) (map inner_name (reset_inners net p)) x a)
+      (λ (b : In (map inner_name (reset_inners net p)) x). in_right (map inner_name (order_inners net t p order)) (map inner_name (reset_inners net p)) x b)
       m)
 
   word_picked : (k : ℕ) (w : IsWord net t k) → In (picked is_register (ordered_names net t) (ordered_leaves net)) w.name
   word_picked k w = ordered_picked net t is.whole is.table is_register k w.leaf w.name w.at (ap is_register w.register) w.named
 
   no_register : (k : ℕ) (w : IsWord net t k) (x : List ℕ) → w.name ≡ x
-      → In (map inner_name (order_inners net p order)) x ⊎ In (map inner_name (reset_inners net p)) x → ⊥
+      → In (map inner_name (order_inners net t p order)) x ⊎ In (map inner_name (reset_inners net p)) x → ⊥
   no_register k w x e m =
       no_inner net t p order is is_register x (subst (In (picked is_register (ordered_names net t) (ordered_leaves net))) e (word_picked k w)) (among_inners x m)
 
@@ -137,7 +140,7 @@ module _ (net : FlatNet) (t : NameTable) (p : Places) (order : List Read) (is : 
   node_no_word k m x there_is n h =
       ⊎_elim
       (λ (o : In (net_names m) x).
-      apart (map inner_name (order_inners net p order)) (map inner_name (reset_inners net p)) inners_once x (among_nodes k x there_is n)
+      apart (map inner_name (order_inners net t p order)) (map inner_name (reset_inners net p)) inners_once x (among_nodes k x there_is n)
       (among_resets m x h.among o))
       (λ (e : h.word.name ≡ x). no_register m h.word x e (inl (among_nodes k x there_is n)))
       h.side
@@ -198,7 +201,7 @@ module _ (net : FlatNet) (t : NameTable) (p : Places) (order : List Read) (is : 
 
   come_once : (r : Read) → In order r → Distinct (come_names r)
   come_once (read.Node k) m =
-      subst Distinct (sym (own_names (read_inners net p (read.Node k)))) (part_distinct node_names order nodes_once (read.Node k) m)
+      subst Distinct (sym (own_names (read_inners net t p (read.Node k)))) (part_distinct node_names order nodes_once (read.Node k) m)
   come_once (read.Leaf k) m =
       let place = number_of order (read.Leaf k) m in
       let l = there net.leaves k (is.ordered.only place.0 (read.Leaf k) place.1) in

@@ -128,7 +128,7 @@ module _ (net : FlatNet) (t : NameTable) (p : Places) (order : List Read) (is : 
   leaf_stands : (k : ℕ) (l : Leaf) (r : Role) → slice_get net.leaves k ≡ Some l → l.role ≡ r → is_clock r ≡ false
       → IsRole net.leaves net.nodes l.signed l.width r
       → ((w : Read) → Reads net (read.Leaf k) w → Stand w)
-      → StandsAs ns (place_value (placed p.leaves p.nodes (name_at t.leaves k) k l.signed l.width r)) (type_of_leaf l)
+      → StandsAs ns (place_value (placed p.leaves p.nodes p.readings (name_at t.leaves k) k l.signed l.width r)) (type_of_leaf l)
   leaf_stands k l role.Input at e plain driven below = own_stands l (name_at t.leaves k) (size_at k l at) (ap is_net e) (ap is_wire e)
   leaf_stands k l (role.Register r) at e plain driven below = own_stands l (name_at t.leaves k) (size_at k l at) (ap is_net e) (ap is_wire e)
   leaf_stands k l (role.Output r) at e plain driven below =

@@ -26,6 +26,8 @@ use Rattle.ver_build.proofs.Premises.{Premises}
 use Rattle.ver_build.proofs.Words.{IsWord, word_at, net_is}
 use Rattle.ver_build.proofs.Nets.{inner_name}
 use Rattle.ver_build.proofs.NodeNets.{order_named}
+use Rattle.ver_build.proofs.NoArrays.{late_are, no_leaf_inners, no_leaf_names}
+use Rattle.ver_build.specs.declared.right_sides.Inner.{Inner}
 
 none_is : {A : Type 0} → (o : Option A) → is_some o ≡ false → o ≡ None
 none_is None e = refl
@@ -98,20 +100,24 @@ module _ (net : FlatNet) (t : NameTable) (p : Places) (order : List Read) (is : 
       let w = word_at net t is.whole is.table k m in
       ap (map inner_name) (net_is net t p k w) ∙ one_named w.own.reset (name_at p.resets k) (needs_is k m w))
 
-  pub inners_named : map inner_name (inners net p order) ≡ inner_names net p.nodes order ++ reset_names p.resets net.state
+  pub inners_named : map inner_name (inners net t p order) ≡ inner_names net p.nodes p.readings order ++ reset_names p.resets net.state
   inners_named =
-      map-append inner_name (order_inners net p order) (reset_inners net p)
-      ∙ ap (λ (xs : List (List ℕ)). xs ++ map inner_name (reset_inners net p)) (order_named net p is.places.nodes.held order)
-      ∙ ap (λ (xs : List (List ℕ)). inner_names net p.nodes order ++ xs) resets_named
+      ap (λ (xs : List Inner). map inner_name (order_inners net t p order ++ xs)) (late_are net is.whole is.writable.no_arrays p)
+      ∙ map-append inner_name (order_inners net t p order) (reset_inners net p)
+      ∙ ap (λ (xs : List (List ℕ)). xs ++ map inner_name (reset_inners net p))
+      (order_named net t p is.places.nodes.held
+      (λ k. ap (map inner_name) (no_leaf_inners net is.whole is.writable.no_arrays t p k)
+      ∙ sym (no_leaf_names net is.whole is.writable.no_arrays p.nodes p.readings k)) order)
+      ∙ ap (λ (xs : List (List ℕ)). inner_names net p.nodes p.readings order ++ xs) resets_named
 
   -- they are the inner ones
-  pub inners_numbered : AreInnerTo (table_names t) 0 (map inner_name (inners net p order)) is.places.resets.last
+  pub inners_numbered : AreInnerTo (table_names t) 0 (map inner_name (inners net t p order)) is.places.resets.last
   inners_numbered =
       rw inners_named
-      (joined_to (table_names t) (inner_names net p.nodes order) (reset_names p.resets net.state) 0 is.places.last is.places.resets.last
+      (joined_to (table_names t) (inner_names net p.nodes p.readings order) (reset_names p.resets net.state) 0 is.places.last is.places.resets.last
       is.places.nodes.named is.places.resets.named)
 
-  pub inners_spelled : AllByRecursion IsName (map inner_name (inners net p order))
+  pub inners_spelled : AllByRecursion IsName (map inner_name (inners net t p order))
   inners_spelled =
       rw inners_named
-      (all_joined IsName (inner_names net p.nodes order) (reset_names p.resets net.state) is.places.nodes.spelled is.places.resets.spelled)
+      (all_joined IsName (inner_names net p.nodes p.readings order) (reset_names p.resets net.state) is.places.nodes.spelled is.places.resets.spelled)

@@ -127,16 +127,18 @@ module _ (net : FlatNet) (whole : IsNet net) (t : NameTable) (leaves : List Plac
         by false e h = rw (h.0, h.1) (goes_by e)
 
   walk_ends : (names : List (Option (List ℕ))) (i to : ℕ) → i ≡ length net.state → to ≤ 2 ^ 127 → Walk names i to
-      → AreResetNets net t leaves nodes first names
+      → (a : AreResetNets net t leaves nodes first names) × (a.last ≡ to)
   walk_ends names i to end near walk =
-      let all : take i net.state ≡ net.state = ap (λ (n : ℕ). take n net.state) end ∙ take-length net.state in
-      record {
-        each = λ k m. walk.passed k (subst (λ (ks : List ℕ). In ks k) (sym all) m);
-        last = to;
-        named = subst (λ (ks : List ℕ). AreInnerTo (table_names t) first (reset_names names ks) to) all walk.named;
-        near = near;
-        spelled = subst (λ (ks : List ℕ). AllByRecursion IsName (reset_names names ks)) all walk.spelled;
-      }
+      let all : take i net.state ≡ net.state = ap (λ (n : ℕ). take n net.state) end ∙ take-length net.state in (
+        record {
+          each = λ k m. walk.passed k (subst (λ (ks : List ℕ). In ks k) (sym all) m);
+          last = to;
+          named = subst (λ (ks : List ℕ). AreInnerTo (table_names t) first (reset_names names ks) to) all walk.named;
+          near = near;
+          spelled = subst (λ (ks : List ℕ). AllByRecursion IsName (reset_names names ks)) all walk.spelled;
+        },
+        refl,
+      )
 
 -- the loop along the words
 pub record ResetLoop (net : FlatNet) (t : NameTable) (leaves : List Place) (nodes : List NodePlace) (first : ℕ) (names : List (Option (List ℕ))) (i to : ℕ) : Type 0 where
@@ -156,5 +158,6 @@ loop_goes_on net t leaves nodes first names new i from to k less is few near ste
 }
 
 pub loop_ends : (net : FlatNet) (t : NameTable) (leaves : List Place) (nodes : List NodePlace) (first : ℕ) (names : List (Option (List ℕ))) (i to : ℕ)
-    → i ≡ length net.state → ResetLoop net t leaves nodes first names i to → IsNet net → AreResetNets net t leaves nodes first names
+    → i ≡ length net.state → ResetLoop net t leaves nodes first names i to → IsNet net
+    → (a : AreResetNets net t leaves nodes first names) × (a.last ≡ to)
 loop_ends net t leaves nodes first names i to end before whole = walk_ends net whole t leaves nodes first names i to end before.near (before.walk whole)

@@ -24,7 +24,7 @@ use Rattle.ver_ast.proofs.Widths.{declared_width}
 use Rattle.ver_build.specs.declared.places.Places.{Places}
 use Rattle.ver_build.specs.declared.right_sides.Inner.{Inner}
 use Rattle.ver_build.specs.working.Places.{node_at}
-use Rattle.ver_build.specs.working.Built.{inners, order_inners, reset_inners, node_inners, inners_at, read_inners}
+use Rattle.ver_build.specs.working.Built.{inners, order_inners, reset_inners, node_inners, inners_at, read_inners, late_inners}
 use Rattle.ver_build.proofs.Names.{Each, each_and, each_part}
 use Rattle.ver_build.proofs.Premises.{Premises, some_bits, bits_named, Whole, Known}
 use Rattle.ver_build.proofs.OrderedLeaves.{ordered_all, ordered_all_once, ordered_names, ordered_leaves, ordered_whole, ordered_known, ordered_once, ordered_inner}
@@ -35,6 +35,7 @@ use Rattle.ver_build.proofs.Standing.{DeclaresInners}
 use Rattle.ver_build.proofs.NodeNets.{IsLiteral, IsEmpty, IsNetted, node_view, given_inners, no_inners, empty_inners, netted_inners}
 use Rattle.ver_build.proofs.ResetNames.{inners_numbered}
 use Rattle.ver_build.proofs.InnerNames.{all_once}
+use Rattle.ver_build.proofs.NoArrays.{no_leaf_inners}
 
 -- a net of that name and width, from 1 to 128
 pub record IsSized (nets : List SizedNet) (name : List ℕ) (w : ℕ) : Type 0 where
@@ -82,7 +83,7 @@ LeafFact net nets l n = LeafSized nets l n × IsLeaf net.leaves net.nodes l × I
 
 module _ (net : FlatNet) (t : NameTable) (p : Places) (order : List Read) (is : Premises net t p order) where
   abbrev all_inners : List Inner
-  all_inners = inners net p order
+  all_inners = inners net t p order
 
   once : Distinct (somes (ordered_names net t))
   once = ordered_once net t is.whole is.table
@@ -138,9 +139,9 @@ module _ (net : FlatNet) (t : NameTable) (p : Places) (order : List Read) (is : 
       → In (node_inners p n (node_at p.nodes k).helpers h.name) i → In all_inners i
   inners_among k n h at i m =
       let place = is.ordered.all (read.Node k) (slice_get_within net.nodes k n at) in
-      let given : In (read_inners net p (read.Node k)) i = rw (at, netted_inners p n (node_at p.nodes k) h) m in
-      in_left (order_inners net p order) (reset_inners net p) i
-      (in_flat_map (read_inners net p) order (read.Node k) i (get_in order place.0 (read.Node k) place.1) given)
+      let given : In (read_inners net t p (read.Node k)) i = rw (at, netted_inners p n (node_at p.nodes k) h) m in
+      in_left (order_inners net t p order) (late_inners net p) i
+      (in_flat_map (read_inners net t p) order (read.Node k) i (get_in order place.0 (read.Node k) place.1) given)
 
   from_node : (k : ℕ) (n : Node) (i : Inner) → slice_get net.nodes k ≡ Some n → In (given_inners p n (node_at p.nodes k)) i → InnerOf net p i
   from_node k n i at m =
@@ -154,17 +155,17 @@ module _ (net : FlatNet) (t : NameTable) (p : Places) (order : List Read) (is : 
       o)
       (node_view p n here (is.places.nodes.held.each k n at))
 
-  pub inner_of : (i : Inner) → In (order_inners net p order) i → InnerOf net p i
+  pub inner_of : (i : Inner) → In (order_inners net t p order) i → InnerOf net p i
   inner_of i m =
-      let r = in_flat_map_from (read_inners net p) order i m in
+      let r = in_flat_map_from (read_inners net t p) order i m in
       by_read r.0 r.2
     where
       by_node : (k : ℕ) (o : Option Node) → slice_get net.nodes k ≡ o → In (inners_at p o (node_at p.nodes k)) i → InnerOf net p i
       by_node k None at h = absurd h
       by_node k (Some n) at h = from_node k n i at h
 
-      by_read : (r : Read) → In (read_inners net p r) i → InnerOf net p i
-      by_read (read.Leaf k) h = absurd h
+      by_read : (r : Read) → In (read_inners net t p r) i → InnerOf net p i
+      by_read (read.Leaf k) h = absurd (subst (λ (xs : List Inner). In xs i) (no_leaf_inners net is.whole is.writable.no_arrays t p k) h)
       by_read (read.Node k) h = by_node k (slice_get net.nodes k) refl h
 
   pub inner_among : (i : Inner) → In all_inners i → In (sizes net t p order) (inner_sized i)

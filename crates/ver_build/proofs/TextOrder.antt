@@ -59,7 +59,7 @@ nets_declared c step known (n ∷ ns) rest go =
 pub items_declared : (known all : List (List ℕ)) (rs ws : List Net) (xs cs : List Assign) (bs : List AlwaysBlock)
     → ((x : List ℕ) → In all x → In (known ++ (map net_name rs ++ map net_name ws)) x)
     → AllByRecursion (AssignAmong all) xs → AllByRecursion (AssignAmong known) cs → AllByRecursion (BlockAmong (known ++ all)) bs
-    → DeclaredBefore known (items rs ws xs cs bs)
+    → DeclaredBefore known (items rs [] ws xs cs bs)
 items_declared known all rs ws xs cs bs among assigned shown blocked =
     nets_declared item.Reg (λ k n rest d. (tt, d)) known rs (map item.Wire ws ++ (map item.Assign xs ++ (map item.Assign cs ++ map block_item bs)))
     (λ after h. nets_declared item.Wire (λ k n rest d. (tt, d)) after ws (map item.Assign xs ++ (map item.Assign cs ++ map block_item bs))

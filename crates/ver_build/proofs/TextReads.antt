@@ -40,6 +40,7 @@ use Rattle.ver_build.proofs.Words.{net_of}
 use Rattle.ver_build.proofs.ReadsStand.{word_reset, read_of}
 use Rattle.ver_build.proofs.TextOrder.{Within}
 use Rattle.ver_build.proofs.Placed.{has_own, inner_process, known_first, leaf_known, given_at, in_order}
+use Rattle.ver_build.proofs.NoArrays.{late_are, no_leaf_inners}
 
 -- each assign reads only what is known before it
 abbrev pub AssignsBefore : List (List ℕ) → List Assign → Type 0
@@ -110,8 +111,8 @@ module _ (net : FlatNet) (t : NameTable) (p : Places) (order : List Read) (is : 
   abbrev given : Read → List Process
   given = given_at net t p order is sources nothing leaf_step
 
-  given_is : (r : Read) → map inner_process (read_inners net p r) ≡ given r
-  given_is (read.Leaf k) = refl
+  given_is : (r : Read) → map inner_process (read_inners net t p r) ≡ given r
+  given_is (read.Leaf k) = ap (map inner_process) (no_leaf_inners net is.whole is.writable.no_arrays t p k)
   given_is (read.Node k) = refl
 
   behind_known : (known : List (List ℕ)) → Within sources known → ((r : Read) → IsOf net r → IsKnown known (held_of p r)) → ReadsBefore known behind
@@ -124,10 +125,11 @@ module _ (net : FlatNet) (t : NameTable) (p : Places) (order : List Read) (is : 
 
   in_text : map assigning (assigns_of net t p order) ≡ flat_map given order ++ behind
   in_text =
-      map-append assigning (map inner_assign (inners net p order)) (output_assigns net t p order)
+      map-append assigning (map inner_assign (inners net t p order)) (output_assigns net t p order)
       ∙ ap (λ (qs : List Process). qs ++ map assigning (output_assigns net t p order))
-      (map-map assigning inner_assign (inners net p order) ∙ map-append inner_process (order_inners net p order) (reset_inners net p)
-      ∙ ap (λ (qs : List Process). qs ++ map inner_process (reset_inners net p)) (flat_mapped inner_process (read_inners net p) given given_is order))
+      (map-map assigning inner_assign (inners net t p order) ∙ ap (λ (xs : List Inner). map inner_process (order_inners net t p order ++ xs)) (late_are net is.whole is.writable.no_arrays p)
+      ∙ map-append inner_process (order_inners net t p order) (reset_inners net p)
+      ∙ ap (λ (qs : List Process). qs ++ map inner_process (reset_inners net p)) (flat_mapped inner_process (read_inners net t p) given given_is order))
       ∙ append_assoc (flat_map given order) (map inner_process (reset_inners net p)) (map assigning (output_assigns net t p order))
 
   pub assigns_ordered : AssignsBefore sources (assigns_of net t p order)

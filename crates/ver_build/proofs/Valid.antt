@@ -144,7 +144,7 @@ module _ (net : FlatNet) (t : NameTable) (p : Places) (order : List Read) (is : 
   tree_sizes = sizes net t p order
 
   abbrev inside : List (List ℕ)
-  inside = map inner_name (inners net p order)
+  inside = map inner_name (inners net t p order)
 
   once : Distinct (somes (ordered_names net t))
   once = ordered_once net t is.whole is.table
@@ -213,11 +213,11 @@ module _ (net : FlatNet) (t : NameTable) (p : Places) (order : List Read) (is : 
 
   all_narrow : AllByRecursion IsNarrow tree_sizes
   all_narrow =
-      all_joined IsNarrow (picked_sized is_net (ordered_names net t) (ordered_leaves net)) (map inner_sized (inners net p order))
+      all_joined IsNarrow (picked_sized is_net (ordered_names net t) (ordered_leaves net)) (map inner_sized (inners net t p order))
       (all_zipped (LeafSized tree_sizes) IsNarrow (λ l n. sized_if (is_net l.role) l.width n)
       (λ l n h. leaf_narrow tree_sizes (is_net l.role) l.width n (leaf_is_sized tree_sizes l n h)) (ordered_names net t) (ordered_leaves net) (leaf_sizes net t p order is))
-      (all_mapped IsNarrow inner_sized (inners net p order)
-      (all_from (λ x. IsNarrow (inner_sized x)) (inners net p order) (λ x m. let size = inner_size net t p order is x m in (size.one, size.narrow))))
+      (all_mapped IsNarrow inner_sized (inners net t p order)
+      (all_from (λ x. IsNarrow (inner_sized x)) (inners net t p order) (λ x m. let size = inner_size net t p order is x m in (size.one, size.narrow))))
 
   fits : (a : Assign) → In (assigns (in_parts net t p order)) a → IsSoundAssign (in_parts net t p order) a
   fits a m =
@@ -244,7 +244,7 @@ module _ (net : FlatNet) (t : NameTable) (p : Places) (order : List Read) (is : 
         wires_sized net t p order,
         outputs_sized net t p order,
         map-map (λ (s : SizedNet). s.0) inner_sized
-            (inners net p order),
+            (inners net t p order),
         picked_names is_output (ordered_names net t) (ordered_leaves net),
       ) (sym all_targets)
 

@@ -2,9 +2,11 @@
 pub mod Held
 pub mod Operands
 pub mod Texts
+pub mod ArrayTexts
 pub mod Places
 pub mod Walks
 pub mod Blocks
+pub mod ArrayBlocks
 pub mod Built
 pub mod BlockRegisters
 pub mod Builds

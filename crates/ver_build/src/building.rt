@@ -8,6 +8,7 @@ ghost use Rattle.fir_net.specs.working.IsWritable.{IsWritable};
 ghost use Rattle.ver_build.specs.working.Built.{built};
 ghost use Rattle.ver_build.specs.working.Builds.{Builds};
 
+use crate::array_blocks::{put_array_blocks, put_arrays};
 use crate::clock_outputs::put_clock_assigns;
 use crate::items::{
     inners_of, ports_of, put_inner_assigns, put_output_assigns, put_regs, put_wires,
@@ -23,9 +24,10 @@ use fir_net_names::{NameTable, names};
 use std::alloc::Global;
 use ver_ast::{Item, Verilog, valid_has_one_rest};
 
-/// The tree of the net with these names and places: nets for each operation and mux and for the resets that need
-/// one, an assign for each of these, each output and each clock output, and a block for each register that has a
-/// reset, or that something drives on a clock.
+/// The tree of the net with these names and places: nets for each operation and mux, for what is read of arrays and
+/// for the resets and writes that need some, an assign for each of these, each output and each clock output, and a
+/// block for each register that has a reset, or that something drives on a clock, and for each array that is written on
+/// one.
 pub fn built_tree(
     alloc: Global,
     net: &FlatNet,
@@ -46,7 +48,7 @@ pub fn built_tree(
     })
 }
 
-/// The items of that tree: registers, then wires, then assigns, those of clock outputs last, then blocks.
+/// The items of that tree: registers, then arrays, then wires, then assigns, those of clock outputs last, then blocks.
 fn items_of(
     alloc: Global,
     net: &FlatNet,
@@ -56,15 +58,17 @@ fn items_of(
 ) -> Result<Vec<Item>, MemoryOut>
     ensures { IfOk result (λ v. v.items ≡ (built net.now table.now places.now order.now).items) }
 {
-    let inners = inners_of(alloc, net, places, order)?;
+    let inners = inners_of(alloc, net, table, places, order)?;
     // A wire and an assign for each of them.
     let mut items = Vec::with_capacity(alloc, inners.len().saturating_mul(2))?;
     put_regs(alloc, &mut items, net, table)?;
+    put_arrays(alloc, &mut items, net, table)?;
     put_wires(alloc, &mut items, inners.as_slice())?;
     put_inner_assigns(&mut items, inners)?;
     put_output_assigns(alloc, &mut items, net, table, places)?;
     put_clock_assigns(alloc, &mut items, net, table, places)?;
     put_blocks(alloc, &mut items, net, table, places)?;
+    put_array_blocks(alloc, &mut items, net, table, places)?;
     Ok(items)
 }
 

@@ -4,17 +4,20 @@ ghost use Rattle.std.specs.Prelude.{◌≡◌, ◌++◌, IfOk, OnOk, option_map,
 ghost use Rattle.ver_ast.specs.declared.tree.Item.TheVariants as item;
 ghost use Rattle.ver_build.specs.working.Operands.{atom_at};
 ghost use Rattle.fir_net_names.specs.working.LeafNamed.{name_at};
-ghost use Rattle.ver_build.specs.working.Places.{held_of};
+ghost use Rattle.fir_net.specs.working.Arrays.{words_of};
+ghost use Rattle.ver_build.specs.working.Places.{held_of, node_at, read_width};
 ghost use Rattle.ver_build.specs.working.Blocks.{leaf_net};
-ghost use Rattle.ver_build.specs.working.Built.{inners, order_inners, reset_inners, read_inners, leaf_port, leaf_reg, leaf_assign, inner_wire, inner_assign, along, at_numbers, of_leaf, given};
+ghost use Rattle.ver_build.specs.working.Built.{inners, inners_at, leaf_inners, order_inners, reset_inners, read_inners, leaf_port, leaf_reg, leaf_assign, inner_wire, inner_assign, along, at_numbers, of_leaf, given};
 
+use crate::array_blocks::put_write_inners;
+use crate::array_texts::{ArrayText, read_width, reading_inners, words_of};
 use crate::atoms::atom_at;
 use crate::held::Source;
 use crate::places::Places;
 use crate::right_sides::{Inner, node_inners};
-use fir_ast::LeafId;
+use fir_ast::{LeafId, NodeId};
 use fir_base::{Direction, MemoryOut, Name};
-use fir_net::{FlatNet, Leaf, Read, Role};
+use fir_net::{ArrayRead, FlatNet, Leaf, Read, Role};
 use fir_net_names::NameTable;
 use std::alloc::Global;
 use ver_ast::{Assign, Atom, Item, Net, Port, Rhs};
@@ -103,58 +106,134 @@ pub fn leaf_at(net: &FlatNet, number: LeafId) -> Option<&Leaf>
     net.leaves.as_slice().get(number.number())
 }
 
-/// The inner nets: those of nodes, in the order, and then those of resets.
+/// The inner nets: those of nodes and of what is read of arrays, in the order, then those of resets, and then those
+/// of writes.
 pub fn inners_of(
     alloc: Global,
     net: &FlatNet,
+    table: &NameTable,
     places: &Places,
     order: &[Read],
 ) -> Result<Vec<Inner>, MemoryOut>
-    ensures { IfOk result (λ v. v.items ≡ inners net.now places.now order.now) }
+    ensures { IfOk result (λ v. v.items ≡ inners net.now table.now places.now order.now) }
 {
-    let mut inners = order_inners(alloc, net, places, order)?;
+    let mut inners = order_inners(alloc, net, table, places, order)?;
     put_reset_inners(alloc, &mut inners, net, places)?;
+    put_write_inners(alloc, &mut inners, net, places)?;
     Ok(inners)
 }
 
-/// The inner nets of all nodes that have one, in the order.
+/// The inner nets of all nodes and of all that is read of arrays, in the order.
 fn order_inners(
     alloc: Global,
     net: &FlatNet,
+    table: &NameTable,
     places: &Places,
     order: &[Read],
 ) -> Result<Vec<Inner>, MemoryOut>
-    ensures { IfOk result (λ v. v.items ≡ order_inners net.now places.now order.now) }
+    ensures { IfOk result (λ v. v.items ≡ order_inners net.now table.now places.now order.now) }
 {
     let mut inners = Vec::with_capacity(alloc, order.len())?;
     for read in order {
-        let mut more = read_inners(alloc, net, places, *read)?;
+        let mut more = read_inners(alloc, net, table, places, *read)?;
         inners.append(&mut more)?;
     }
     Ok(inners)
 }
 
-/// The inner nets of a node; a leaf has none.
+/// The inner nets of a node, or of what a leaf reads of an array.
 fn read_inners(
     alloc: Global,
     net: &FlatNet,
+    table: &NameTable,
     places: &Places,
     read: Read,
 ) -> Result<Vec<Inner>, MemoryOut>
-    ensures { IfOk result (λ v. v.items ≡ read_inners net.now places.now read) }
+    ensures { IfOk result (λ v. v.items ≡ read_inners net.now table.now places.now read) }
 {
-    let Read::Node(k) = read else {
-        return Ok(Vec::new(alloc));
-    };
-    let Some(node) = net.nodes.as_slice().get(k.number()) else {
-        return Ok(Vec::new(alloc));
-    };
-    let Some(place) = places.node(k) else {
+    match read {
+        Read::Leaf(k) => leaf_inners(alloc, net, table, places, k),
+        Read::Node(k) => inners_at(alloc, net, places, k),
+    }
+}
+
+/// The inner nets of a node.
+fn inners_at(
+    alloc: Global,
+    net: &FlatNet,
+    places: &Places,
+    node: NodeId,
+) -> Result<Vec<Inner>, MemoryOut>
+    ensures { IfOk result (λ v. v.items ≡ inners_at places.now (slice_get net.now.nodes node) (node_at places.now.nodes node)) }
+{
+    let (Some(place), Some(node)) = (places.node(node), net.nodes.as_slice().get(node.number()))
+    else {
         return Ok(Vec::new(alloc));
     };
     match &place.held.source {
         Source::Number(_) => Ok(Vec::new(alloc)),
         Source::Net(part) => node_inners(alloc, places, node, place.helpers.as_slice(), &part.name),
+    }
+}
+
+/// The inner nets of what a leaf reads of an array.
+fn leaf_inners(
+    alloc: Global,
+    net: &FlatNet,
+    table: &NameTable,
+    places: &Places,
+    number: LeafId,
+) -> Result<Vec<Inner>, MemoryOut>
+    ensures { IfOk result (λ v. v.items ≡ leaf_inners net.now table.now places.now (slice_get net.now.leaves number) (node_at places.now.readings number)) }
+{
+    let (Some(place), Some(leaf)) = (places.reading(number), leaf_at(net, number)) else {
+        return Ok(Vec::new(alloc));
+    };
+    let (Role::Reading(read), Source::Net(part)) = (leaf.role, &place.held.source) else {
+        return Ok(Vec::new(alloc));
+    };
+    let text = array_text(alloc, net, table, places, leaf.width, &read)?;
+    reading_inners(alloc, text, place.helpers.as_slice(), &part.name)
+}
+
+/// A read of an array, whose words are that wide.
+fn array_text(
+    alloc: Global,
+    net: &FlatNet,
+    table: &NameTable,
+    places: &Places,
+    width: u32,
+    read: &ArrayRead,
+) -> Result<ArrayText, MemoryOut>
+    ensures { IfOk result (λ r. r ≡ record {
+      array = unwrap_or (name_at table.now.arrays read.now.array) [];
+      words = words_of net.now.arrays read.now.array;
+      width = width;
+      address_width = read_width net.now read.now.address;
+      address = held_of places.now read.now.address;
+      enable = held_of places.now read.now.enable;
+    }) }
+{
+    let array = array_name(alloc, table, read.array)?;
+    let address = places.held(alloc, read.address)?;
+    let enable = places.held(alloc, read.enable)?;
+    Ok(ArrayText {
+        array,
+        words: words_of(net, read.array),
+        width,
+        address_width: read_width(net, read.address),
+        address,
+        enable,
+    })
+}
+
+/// The name of an array; one that has bits has one in a whole net.
+fn array_name(alloc: Global, table: &NameTable, array: usize) -> Result<Name, MemoryOut>
+    ensures { IfOk result (λ n. n ≡ unwrap_or (name_at table.now.arrays array) []) }
+{
+    match table.array(array) {
+        Some(name) => name.copy(alloc),
+        None => Name::new(alloc, b""),
     }
 }
 

@@ -7,14 +7,14 @@ ghost use Rattle.ver_build.specs.working.Places.{ArePlaced, placed};
 ghost use Rattle.ver_build.specs.working.Walks.{IsLeafPassed};
 
 use crate::held::{Held, own_held};
-use crate::places::{NodePlace, Place, driven_clock_in, held_in};
+use crate::places::{NodePlace, Place, driven_clock_in, held_in, reading_in};
 use fir_ast::LeafId;
 use fir_base::{MemoryOut, Name};
 use fir_net::{FlatNet, Leaf, Read, Role};
 use fir_net_names::NameTable;
 use std::alloc::Global;
 
-/// Where the values of the leaves are, from where those of the nodes are. It goes along the order, in which
+/// Where the values of the leaves are, from where those of the nodes and those read of arrays are. It goes along the order, in which
 /// each leaf stands behind what drives it. What the order has besides the net's leaves is passed by.
 pub fn leaf_places(
     alloc: Global,
@@ -22,12 +22,13 @@ pub fn leaf_places(
     table: &NameTable,
     order: &[Read],
     nodes: &[NodePlace],
+    readings: &[NodePlace],
 ) -> Result<Vec<Place>, MemoryOut>
-    ensures { IfOk result (λ v. IsOrder net.now order.now → ArePlaced net.now table.now nodes.now v.items) }
+    ensures { IfOk result (λ v. IsOrder net.now order.now → ArePlaced net.now table.now nodes.now readings.now v.items) }
 {
     let mut places = no_places(alloc, net.leaves.as_slice())?;
     for read in order {
-        pass(alloc, net, table, nodes, &mut places, *read)?;
+        pass(alloc, net, table, nodes, readings, &mut places, *read)?;
     }
     Ok(places)
 }
@@ -38,16 +39,18 @@ fn pass(
     net: &FlatNet,
     table: &NameTable,
     nodes: &[NodePlace],
+    readings: &[NodePlace],
     places: &mut Vec<Place>,
     read: Read,
 ) -> Result<(), MemoryOut>
-    ensures { OnOk result (IsOf net.now read → length places.old.items ≡ length net.now.leaves → IsLeafPassed net.now table.now nodes.now read places.old.items places.new.items) }
+    ensures { OnOk result (IsOf net.now read → length places.old.items ≡ length net.now.leaves → IsLeafPassed net.now table.now nodes.now readings.now read places.old.items places.new.items) }
 {
     let leaves = net.leaves.as_slice();
     match read {
         Read::Leaf(k) if k.number() < leaves.len() && k.number() < places.len() => {
             let leaf = &leaves[k.number()];
-            let place = leaf_place(alloc, places.as_slice(), nodes, k, leaf, table.leaf(k))?;
+            let leaves = places.as_slice();
+            let place = leaf_place(alloc, leaves, nodes, readings, k, leaf, table.leaf(k))?;
             places[k.number()] = place;
         }
         _ => (),
@@ -71,11 +74,12 @@ fn leaf_place(
     alloc: Global,
     leaves: &[Place],
     nodes: &[NodePlace],
+    readings: &[NodePlace],
     number: LeafId,
     leaf: &Leaf,
     name: Option<&Name>,
 ) -> Result<Place, MemoryOut>
-    ensures { IfOk result (λ p. p ≡ placed leaves.now nodes.now (option_map (λ n. n.now) name.entry) number leaf.now.signed leaf.now.width leaf.now.role) }
+    ensures { IfOk result (λ p. p ≡ placed leaves.now nodes.now readings.now (option_map (λ n. n.now) name.entry) number leaf.now.signed leaf.now.width leaf.now.role) }
 {
     match leaf.role {
         Role::Input | Role::Register(_) => {
@@ -86,8 +90,7 @@ fn leaf_place(
             let held = held_in(alloc, leaves, nodes, read)?;
             Ok(Place::Value(held.fit(leaf.width)))
         }
-        // So far no net with arrays is written.
-        Role::Reading(_) => Ok(Place::Value(Held::no_bits())),
+        Role::Reading(_) => Ok(Place::Value(reading_in(alloc, readings, number)?)),
         Role::Clock => Ok(Place::Clock(Some(number))),
         Role::ClockOutput(driver) | Role::ClockWire(driver) => {
             Ok(Place::Clock(driven_clock_in(leaves, driver)))

@@ -5,12 +5,13 @@ ghost use Rattle.fir_net.specs.working.IsOrder.{IsOrder};
 ghost use Rattle.fir_net.specs.working.IsNet.{IsNet};
 ghost use Rattle.fir_net_names.specs.working.LeafNamed.{name_at};
 ghost use Rattle.fir_inits.specs.working.InitValues.{init_at};
-ghost use Rattle.ver_build.specs.working.Places.{IsPlaces, bit_net, held_in, held_of, clock_in, driven_clock_in};
+ghost use Rattle.ver_build.specs.working.Places.{IsPlaces, bit_net, guard_at, node_at, held_in, held_of, clock_in, driven_clock_in};
 
 use crate::held::Held;
 use crate::leaf_places::leaf_places;
-use crate::node_places::node_places;
-use crate::reset_nets::{bit_net_in, reset_nets};
+use crate::node_places::{NodePlaces, node_places};
+use crate::reset_nets::{ResetNets, bit_net_in, reset_nets};
+use crate::write_guards::write_guards;
 use fir_ast::{LeafId, NodeId};
 use fir_base::{MemoryOut, Name, Seq};
 use fir_inits::{InitValues, init_values};
@@ -25,21 +26,31 @@ pub enum Place {
     Clock(Option<LeafId>),
 }
 
-/// Where the value of a node is, and the names of the nets that it has before its own.
+/// Where the value of a node is, or what a leaf reads of an array, and the names of the nets that it has before its own.
 #[derive(Drop)]
 pub struct NodePlace {
     pub held: Held,
     pub helpers: Seq<Name>,
 }
 
-/// Where the values of all leaves and nodes are, by their numbers. And for the registers with a reset, by their
-/// numbers, the nets that resets have of their own, where some have, and what the registers show while their
-/// resets are 1.
+/// The nets of a write at an address that may be past the end: whether it is within, and whether something is
+/// written then.
+#[derive(Drop)]
+pub struct Guard {
+    pub within: Name,
+    pub written: Name,
+}
+
+/// Where the values of all leaves and nodes are, by their numbers, and what leaves read of arrays. And for the
+/// registers with a reset, by their numbers, the nets that resets have of their own, where some have, and what the
+/// registers show while their resets are 1; and for the arrays, by their numbers, the nets of their writes.
 #[derive(Drop)]
 pub struct Places {
     leaves: Seq<Place>,
     nodes: Seq<NodePlace>,
+    readings: Seq<NodePlace>,
     resets: Seq<Option<Name>>,
+    guards: Seq<Seq<Option<Guard>>>,
     inits: InitValues,
 }
 
@@ -56,6 +67,26 @@ impl Places {
         ensures { option_map (λ h. h.now) result ≡ slice_get self.now.nodes node }
     {
         self.nodes.as_slice().get(node.number())
+    }
+
+    /// Where what a leaf reads of an array is, with the names of its nets.
+    pub fn reading(&self, leaf: LeafId) -> Option<&NodePlace>
+        ensures { option_map (λ h. h.now) result ≡ slice_get self.now.readings leaf }
+    {
+        self.readings.as_slice().get(leaf.number())
+    }
+
+    /// The nets of a write, by the number of its array and its own.
+    pub fn guard(&self, array: usize, write: usize) -> Option<&Guard>
+        ensures { option_map (λ g. g.now) result ≡ guard_at self.now.guards array write }
+    {
+        match self.guards.as_slice().get(array) {
+            Some(guards) => match guards.as_slice().get(write) {
+                Some(Some(guard)) => Some(guard),
+                _ => None,
+            },
+            None => None,
+        }
     }
 
     /// The net of one bit that a read is all of.
@@ -118,8 +149,18 @@ pub fn held_in(
     }
 }
 
+/// Where what a leaf reads of an array is.
+pub fn reading_in(alloc: Global, readings: &[NodePlace], leaf: LeafId) -> Result<Held, MemoryOut>
+    ensures { IfOk result (λ h. h ≡ (node_at readings.now leaf).held) }
+{
+    match readings.get(leaf.number()) {
+        Some(place) => place.held.copy(alloc),
+        None => Ok(Held::no_bits()),
+    }
+}
+
 /// The clock of a leaf, from those of all.
-fn clock_in(leaves: &[Place], leaf: LeafId) -> Option<LeafId>
+pub fn clock_in(leaves: &[Place], leaf: LeafId) -> Option<LeafId>
     ensures { result ≡ clock_in leaves.now leaf }
 {
     match leaves.get(leaf.number()) {
@@ -138,9 +179,9 @@ pub fn driven_clock_in(leaves: &[Place], driver: Option<LeafId>) -> Option<LeafI
     }
 }
 
-/// Where the values of the net are: wires and outputs where what drives them is, and each operation and mux in
-/// a net of its own, named in the order; then the nets of resets, named in the order of the state; and the
-/// constants of registers with a reset.
+/// Where the values of the net are: wires and outputs where what drives them is, and each operation and mux and
+/// what is read of an array in a net of its own, named in the order; then the nets of resets and those of writes,
+/// named in the order of the state; and the constants of registers with a reset.
 pub fn places_of(
     alloc: Global,
     net: &FlatNet,
@@ -150,14 +191,35 @@ pub fn places_of(
     requires { IsNet net.now }
     ensures { IfOk result (λ p. IsOrder net.now order.now → IsPlaces net.now table.now order.now p) }
 {
-    let (nodes, last) = node_places(alloc, net, table, order)?;
-    let leaves = leaf_places(alloc, net, table, order, nodes.as_slice())?;
-    let resets = reset_nets(alloc, net, table, leaves.as_slice(), nodes.as_slice(), last)?;
+    let NodePlaces {
+        nodes,
+        readings,
+        last,
+    } = node_places(alloc, net, table, order)?;
+    let leaves = leaf_places(
+        alloc,
+        net,
+        table,
+        order,
+        nodes.as_slice(),
+        readings.as_slice(),
+    )?;
+    let ResetNets { names, last } = reset_nets(
+        alloc,
+        net,
+        table,
+        leaves.as_slice(),
+        nodes.as_slice(),
+        last,
+    )?;
+    let guards = write_guards(alloc, net, table, leaves.as_slice(), last)?;
     let inits = init_values(alloc, net, order)?;
     Ok(Places {
         leaves: Seq::from_vec(leaves),
         nodes: Seq::from_vec(nodes),
-        resets: Seq::from_vec(resets),
+        readings: Seq::from_vec(readings),
+        resets: Seq::from_vec(names),
+        guards: Seq::from_vec(guards),
         inits,
     })
 }

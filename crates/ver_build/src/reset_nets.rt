@@ -13,8 +13,16 @@ use fir_net::{FlatNet, Leaf, Read, Role};
 use fir_net_names::{NameTable, Numbered};
 use std::alloc::Global;
 
-/// The names of the nets that resets have of their own, by the numbers of their registers; the first has the
-/// first free inner name from that number on. Where no reset has one, it takes no memory.
+/// The names of the nets that resets have of their own, by the numbers of their registers, and the number behind
+/// the last.
+#[derive(Drop)]
+pub struct ResetNets {
+    pub names: Vec<Option<Name>>,
+    pub last: u128,
+}
+
+/// The nets that resets have of their own; the first has the first free inner name from that number on. Where no
+/// reset has one, it takes no memory.
 pub fn reset_nets(
     alloc: Global,
     net: &FlatNet,
@@ -22,9 +30,10 @@ pub fn reset_nets(
     leaves: &[Place],
     nodes: &[NodePlace],
     first: u128,
-) -> Result<Vec<Option<Name>>, MemoryOut>
+) -> Result<ResetNets, MemoryOut>
     requires { first ≤ 2 ^ 127 }
-    ensures { IfOk result (λ v. IsNet net.now → AreResetNets net.now table.now leaves.now nodes.now first v.items) }
+    ensures near { IfOk result (λ r. r.last ≤ 2 ^ 127) }
+    ensures named { IfOk result (λ r. IsNet net.now → (a : AreResetNets net.now table.now leaves.now nodes.now first r.names.items) × (a.last ≡ r.last)) }
 {
     let words = net.state.as_slice();
     let mut names = Vec::new(alloc);
@@ -35,7 +44,7 @@ pub fn reset_nets(
         }
         from = pass(alloc, net, table, leaves, nodes, &mut names, *word, from)?;
     }
-    Ok(names)
+    Ok(ResetNets { names, last: from })
 }
 
 /// Notes the name of the net of a word's reset, where it has one of its own: the first free inner name from that

@@ -450,7 +450,13 @@ fn push_guarded(
     push_inner(inners, own, widths.0, rhs)
 }
 
-fn push_inner(inners: &mut Vec<Inner>, name: Name, width: u32, rhs: Rhs) -> Result<(), MemoryOut>
+/// Appends a net.
+pub fn push_inner(
+    inners: &mut Vec<Inner>,
+    name: Name,
+    width: u32,
+    rhs: Rhs,
+) -> Result<(), MemoryOut>
     ensures { OnOk result (inners.new.items ≡ inners.old.items ++ record { name = name; width = width; rhs = rhs } ∷ []) }
 {
     inners.push(Inner { name, width, rhs })?;
@@ -458,7 +464,7 @@ fn push_inner(inners: &mut Vec<Inner>, name: Name, width: u32, rhs: Rhs) -> Resu
 }
 
 /// The name of that number, or one of no letters.
-fn helper(alloc: Global, names: &[Name], k: usize) -> Result<Name, MemoryOut>
+pub fn helper(alloc: Global, names: &[Name], k: usize) -> Result<Name, MemoryOut>
     ensures { IfOk result (λ n. n ≡ helper names.now k) }
 {
     match names.get(k) {

@@ -16,8 +16,11 @@ loop-word-preserved c =
     c.loop-word.word-index c.loop-word.from c.in_ok-from.from c.word-item.result less is (omega (arith, c.if-from-gt-MOST.false)) c.in_ok-from.ensures.near
     c.in_ok-from.ensures.passed c.loop-word.invariant
 
-pub returns : goal.returns
-returns c =
+pub returns-clause-near : goal.returns-clause-near
+returns-clause-near c = c.loop-word.invariant.near
+
+pub returns-clause-named : goal.returns-clause-named
+returns-clause-named c =
     let same = c.as_slice-words.ensures in
     let test = subst (λ (ws : List ℕ). length ws ≤ c.loop-word.word-index) same c.loop-word-test.false in
     let end = subst (λ (ws : List ℕ). c.loop-word.word-index ≤ length ws) same c.loop-word.auto.word-index-end in
