@@ -14,9 +14,15 @@ use std::cmp::Ordering;
 use std::marker::Model;
 
 /// A name of either language, as the bytes that spell it.
-#[derive(Drop)]
 pub struct Name {
     spelling: Spelling,
+}
+
+// Not derived, so that a drop is a call, which is proved once.
+impl Drop for Name {
+    fn drop(self) {
+        let Name { spelling: _ } = self;
+    }
 }
 
 /// Where the bytes of a name are: a few in place, more on the heap.
