@@ -12,6 +12,7 @@ mod hexadecimal;
 mod name;
 mod refused;
 mod seq;
+mod short_bytes;
 mod words;
 
 pub use byte::{is_digit, is_word_byte, is_word_start};

@@ -8,22 +8,40 @@ ghost use Rattle.std.specs.Cmp.Lexicographic.{slice_cmp, pointwise};
 ghost use Rattle.std.specs.Ordering.{nat_cmp, as_partial_cmp};
 
 use crate::refused::MemoryOut;
+use crate::short_bytes::{MOST_IN_PLACE, ShortBytes};
 use std::alloc::Global;
 use std::cmp::Ordering;
 use std::marker::Model;
 
 /// A name of either language, as the bytes that spell it.
-#[derive(Drop)]
 pub struct Name {
-    bytes: Vec<u8>,
+    spelling: Spelling,
 }
+
+// Not derived, so that a drop is a call, which is proved once.
+impl Drop for Name {
+    fn drop(self) {
+        let Name { spelling: _ } = self;
+    }
+}
+
+/// Where the bytes of a name are: a few in place, more on the heap.
+#[derive(Drop)]
+enum Spelling {
+    Short(ShortBytes),
+    Long(Vec<u8>),
+}
+
+// With its bytes in place a name is no larger than with them on the heap.
+const _: () = prove!(size_of::<Name>() == 32);
 
 impl Model for Name {
     ghost use Rattle.std.specs.Prelude.{List, ℕ};
+    ghost use Rattle.fir_base.specs.declared.name.Spelling.TheVariants.{Short, Long};
 
     ghost Value = { List ℕ };
 
-    ghost view = { λ n. n.bytes.items };
+    ghost view = { λ n. elim n.spelling [ Short bytes ↦ bytes | Long bytes ↦ bytes.items ] };
 }
 
 impl Name {
@@ -31,30 +49,46 @@ impl Name {
     pub fn from_vec(bytes: Vec<u8>) -> Name
         ensures { result ≡ bytes.items }
     {
-        Name { bytes }
+        let spelling = if bytes.len() <= MOST_IN_PLACE {
+            Spelling::Short(ShortBytes::new(bytes.as_slice()))
+        } else {
+            Spelling::Long(bytes)
+        };
+        Name { spelling }
     }
 
-    /// The name that these bytes spell.
+    /// The name that these bytes spell. It takes memory only where they are not held in place.
     pub fn new(alloc: Global, bytes: &[u8]) -> Result<Name, MemoryOut>
         ensures { IfOk result (λ n. n ≡ bytes.now) }
     {
-        Ok(Name {
-            bytes: Vec::from_slice(alloc, bytes)?,
-        })
+        let spelling = if bytes.len() <= MOST_IN_PLACE {
+            Spelling::Short(ShortBytes::new(bytes))
+        } else {
+            Spelling::Long(Vec::from_slice(alloc, bytes)?)
+        };
+        Ok(Name { spelling })
     }
 
-    /// An equal name with memory of its own.
+    /// An equal name, with memory of its own where its bytes are not held in place.
     pub fn copy(&self, alloc: Global) -> Result<Name, MemoryOut>
         ensures { IfOk result (λ n. n ≡ self.now) }
     {
-        Name::new(alloc, self.bytes.as_slice())
+        match &self.spelling {
+            Spelling::Short(bytes) => Ok(Name {
+                spelling: Spelling::Short(bytes.copy()),
+            }),
+            Spelling::Long(bytes) => Name::new(alloc, bytes.as_slice()),
+        }
     }
 
     /// The bytes that spell the name.
     pub fn as_bytes(&self) -> &[u8]
         ensures { result.now ≡ self.now }
     {
-        self.bytes.as_slice()
+        match &self.spelling {
+            Spelling::Short(bytes) => bytes.as_slice(),
+            Spelling::Long(bytes) => bytes.as_slice(),
+        }
     }
 }
 
@@ -64,7 +98,7 @@ impl PartialEq for Name {
     ghost laws = { Prim.search (comparing, rules) };
 
     fn eq(&self, other: &Name) -> bool {
-        self.bytes == other.bytes
+        self.as_bytes() == other.as_bytes()
     }
 }
 
@@ -92,6 +126,6 @@ impl Ord for Name {
     ghost matches_eq = { Prim.search (comparing, rules) };
 
     fn cmp(&self, other: &Name) -> Ordering {
-        self.bytes.cmp(&other.bytes)
+        self.as_bytes().cmp(other.as_bytes())
     }
 }
