@@ -1,9 +1,11 @@
 -- The state after a tick has the net's shape.
-use Rattle.std.proofs.Common.{ℕ, ◌^◌, ◌<◌, List, [], ◌∷◌, map, Bool, true, false, Option, Some, None, if◌then◌else◌, refl, sym, ap, subst, inl, inr}
-use Rattle.std.specs.Prelude.{unwrap_or, option_map}
+use Rattle.std.proofs.Common.{◌≡◌, ℕ, ◌^◌, ◌<◌, List, [], ◌∷◌, map, Bool, true, false, Option, Some, None, if◌then◌else◌, refl, sym, ap, subst, inl, inr}
+use Rattle.std.specs.Prelude.{slice_get, unwrap_or, option_map}
 use Rattle.fir_base.specs.Lists.{In}
 use Rattle.fir_base.specs.Ticks.{Tick, FitEach}
 use Rattle.fir_base.proofs.Elements.{number_of, all_there}
+use Rattle.fir_net.specs.declared.array.Array.{Array}
+use Rattle.fir_net.specs.declared.array.ArrayWrite.{ArrayWrite}
 use Rattle.fir_net.specs.declared.reads.Read.{Read}
 use Rattle.fir_net.specs.declared.leaf.ResetKind.{ResetKind}
 use Rattle.fir_net.specs.declared.leaf.ResetKind.TheVariants.{Synchronous, Asynchronous}
@@ -12,13 +14,16 @@ use Rattle.fir_net.specs.declared.leaf.Role.{Role}
 use Rattle.fir_net.specs.declared.leaf.Role.TheVariants as role
 use Rattle.fir_net.specs.declared.leaf.Leaf.{Leaf}
 use Rattle.fir_net.specs.declared.net.FlatNet.{FlatNet}
-use Rattle.fir_net.specs.working.IsNet.{CanRead, CanBeDriven, CanBeReset, IsRole, IsLeaf, IsNet}
+use Rattle.fir_net.specs.working.Arrays.{array_widths}
+use Rattle.fir_net.specs.working.IsNet.{CanRead, CanBeDriven, CanBeReset, IsArray, IsArrayWrite, IsRole, IsLeaf, IsNet}
 use Rattle.fir_net.specs.working.Laws.{LeavesFit, NodesHaveTheirTypes}
-use Rattle.fir_net.specs.working.Next.{taken, taken_under, taken_with, ticks, next_by, next_of, next_word, next}
+use Rattle.fir_net.specs.working.Next.{taken, taken_under, taken_with, ticks, next_by, next_of, next_word, words_next, arrays_next, next}
 use Rattle.fir_net.specs.working.Settled.{Settled, shape, registers, value_at, is_high, is_clock}
 use Rattle.fir_net.specs.working.Values.{at_width, leaf_width}
+use Rattle.fir_net.proofs.ArrayWords.{arrays_fit}
 use Rattle.fir_net.proofs.StateWords.{register_at}
 use Rattle.fir_net.proofs.WholeValues.{fit_below}
+use Rattle.ver_ast.proofs.Starting.{fit_joined}
 
 -- where each value fits, all do
 fit_map : (w v : ℕ → ℕ) (ks : List ℕ) → ((k : ℕ) → In ks k → v k < 2 ^ w k) → FitEach (map w ks) (map v ks)
@@ -59,6 +64,7 @@ module _ (types : NodesHaveTheirTypes) (net : FlatNet) (whole : IsNet net) (stat
     role_fits role.Clock is = shows
     role_fits (role.Output r) is = shows
     role_fits (role.Wire r) is = shows
+    role_fits (role.Reading r) is = shows
     role_fits (role.ClockOutput c) is = shows
     role_fits (role.ClockWire c) is = shows
 
@@ -72,5 +78,16 @@ module _ (types : NodesHaveTheirTypes) (net : FlatNet) (whole : IsNet net) (stat
       subst (λ (o : Option Leaf). next_of net env clock tick.clocks (env k) o < 2 ^ unwrap_or (option_map (λ (x : Leaf). x.width) o) 0) (sym there.at)
       (role_fits l.width (env k) shows l.signed l.role is.driven)
 
-  pub next_fits : FitEach (shape net).state (next net env clock tick)
-  next_fits = fit_map (leaf_width net.leaves) (next_word net env clock tick.clocks) (registers net) word_fits
+  -- what is written into an array has the width of its words
+  given_fits : (k i : ℕ) (a : Array) (w : ArrayWrite) → slice_get net.arrays k ≡ Some a → slice_get a.writes i ≡ Some w
+      → at_width (value_at net env w.given) a.width < 2 ^ a.width
+  given_fits k i a w at of =
+      let array : IsArray net.leaves net.nodes a = all_there (IsArray net.leaves net.nodes) net.arrays whole.arrays k a at in
+      let write : IsArrayWrite net.leaves net.nodes w = all_there (IsArrayWrite net.leaves net.nodes) a.writes array.writes i w of in
+      read_fits w.given a.width write.given
+
+  pub next_fits : FitEach (shape net).state (next net state env clock tick)
+  next_fits =
+      fit_joined (map (leaf_width net.leaves) (registers net)) (array_widths net) (words_next net env clock tick) (arrays_next net env clock tick.clocks state)
+      (fit_map (leaf_width net.leaves) (next_word net env clock tick.clocks) (registers net) word_fits)
+      (arrays_fit net state settled.shaped.state_fits env clock tick.clocks given_fits)

@@ -50,7 +50,7 @@ module _ (c : CircuitTree) (net : FlatNet) (flat : FlattensTo c net) (net_one : 
   allows_some state tick shaped =
       let h : NetHasOne net state tick = net_one state tick (subst (λ (s : Shape). HasShape s state tick) (sym means.shapes) shaped) in
       let shown : List ℕ = map h.env (outputs net) in
-      let after : List ℕ = next net h.env h.clock tick in
+      let after : List ℕ = next net state h.env h.clock tick in
       let clocks : List (Option ℕ) = map h.clock (net_clock_outputs net) in
       (shown, clocks, after, from_net state tick shown clocks after (h.env, h.clock, h.settled, refl, refl, refl))
 

@@ -1,18 +1,22 @@
 -- The tree of a flat net has a block for just those words of the state that have one by the source.
-use Rattle.std.proofs.Common.{◌≡◌, ◌↔◌, ◌⊎◌, inl, inr, ℕ, suc, List, [], ◌∷◌, ◌++◌, length, map, flat_map, Bool, Some, append-nil, refl, sym, ap, ◌∙◌, subst, arith}
-use Rattle.std.specs.Prelude.{IsSome, slice_get}
+use Rattle.std.proofs.Common.{◌≡◌, ◌↔◌, ◌⊎◌, inl, inr, ℕ, suc, ◌+◌, List, [], ◌∷◌, ◌++◌, length, map, flat_map, replicate, Bool, Option, Some, None, length-append, refl, sym, ap, ◌∙◌, subst, arith}
+use Rattle.std.specs.Prelude.{IsSome, option_map, slice_get, unwrap_or}
 use Rattle.std.proofs.lemmas.List.{length-map}
 use Rattle.fir_meaning.specs.SourceCircuits.{PlacedArray, PlacedLeaf, state_arrays, state_words, widths_in, widths_of_leaves}
 use Rattle.fir_meaning.specs.LeafTypes.{number_type}
 use Rattle.fir_meaning.specs.SourceDesigns.{SourceDesign}
+use Rattle.fir_net.specs.Rows.{ArrayRow}
+use Rattle.fir_net.specs.declared.array.Array.{Array}
 use Rattle.fir_net.specs.declared.leaf.Leaf.{Leaf}
 use Rattle.fir_net.specs.declared.leaf.Register.{Register}
 use Rattle.fir_net.specs.declared.leaf.Role.TheVariants as role
 use Rattle.fir_net.specs.declared.net.FlatNet.{FlatNet}
 use Rattle.fir_net.specs.declared.reads.Read.{Read}
+use Rattle.fir_net.specs.working.Arrays.{array_widths, widths_of}
 use Rattle.fir_net.specs.working.IsNet.{IsNet}
 use Rattle.fir_net.specs.working.IsOrder.{IsOrder}
 use Rattle.fir_net.specs.working.One.{One as NetOne}
+use Rattle.fir_net.specs.working.Rows.{array_row as row_of}
 use Rattle.fir_net.specs.working.Values.{leaf_width}
 use Rattle.fir_net.proofs.LeafEquations.{driven_at}
 use Rattle.fir_net.proofs.StateWords.{RegisterAt, register_at}
@@ -22,22 +26,37 @@ use Rattle.fir_flatten.specs.working.FlattensTo.{HasClock, MeansSource, TakesAs}
 use Rattle.ver_build.specs.working.BlockRegisters.{AreMarked, EndsAtInput, HasBlock as HasBlockIn, net_registers, role_register, word_register}
 use Rattle.fir_compile.proofs.ClockEnds.{ends_where_it_has}
 
-no_arrays : (arrays : List PlacedArray) → [] ≡ map array_row arrays → arrays ≡ []
-no_arrays [] e = refl
-no_arrays (a ∷ arrays) e = cc
+-- the widths of the words of an array by its row
+abbrev row_widths : ArrayRow → List ℕ
+row_widths r = replicate r.depth r.width
+
+source_widths : (arrays : List PlacedArray) → flat_map widths_in arrays ≡ flat_map row_widths (map array_row arrays)
+source_widths [] = refl
+source_widths (a ∷ arrays) = ap (λ (ws : List ℕ). widths_in a ++ ws) (source_widths arrays)
+
+net_widths : (net : FlatNet) (ks : List ℕ) → flat_map (widths_of net) ks ≡ flat_map row_widths (flat_map (λ k. row_of (slice_get net.arrays k)) ks)
+net_widths net [] = refl
+net_widths net (k ∷ ks) = by (slice_get net.arrays k) (net_widths net ks)
+  where
+    by : (o : Option Array) → flat_map (widths_of net) ks ≡ flat_map row_widths (flat_map (λ j. row_of (slice_get net.arrays j)) ks)
+        → replicate (unwrap_or (option_map (λ (a : Array). a.words) o) 0) (unwrap_or (option_map (λ (a : Array). a.width) o) 0) ++ flat_map (widths_of net) ks
+        ≡ flat_map row_widths (row_of o ++ flat_map (λ j. row_of (slice_get net.arrays j)) ks)
+    by None same = same
+    by (Some a) same = ap (λ (ws : List ℕ). replicate a.words a.width ++ ws) same
 
 module _ (t : SourceDesign) (net : FlatNet) (means : MeansSource t net) where
   -- as many words as in the source
   as_many : length net.state ≡ length (state_words t)
   as_many =
-      let none : state_arrays t ≡ [] = no_arrays (state_arrays t) means.arrays in
-      let widths : map (leaf_width net.leaves) net.state ≡ widths_of_leaves (state_words t) ++ flat_map widths_in (state_arrays t) =
-      ap (λ s. s.state) means.shapes in
-      let alone : map (leaf_width net.leaves) net.state ≡ widths_of_leaves (state_words t) =
-      widths ∙ ap (λ (arrays : List PlacedArray). widths_of_leaves (state_words t) ++ flat_map widths_in arrays) none
-      ∙ append-nil (widths_of_leaves (state_words t)) in
-      sym (length-map net.state (leaf_width net.leaves)) ∙ ap length alone
-      ∙ length-map (state_words t) (λ (p : PlacedLeaf). (number_type p.leaf.holds).width)
+      let words = map (leaf_width net.leaves) net.state in
+      let behind : array_widths net ≡ flat_map widths_in (state_arrays t) =
+      net_widths net net.array_order ∙ ap (flat_map row_widths) means.arrays ∙ sym (source_widths (state_arrays t)) in
+      let widths : words ++ array_widths net ≡ widths_of_leaves (state_words t) ++ flat_map widths_in (state_arrays t) = ap (λ s. s.state) means.shapes in
+      let long : length words + length (array_widths net) ≡ length (widths_of_leaves (state_words t)) + length (flat_map widths_in (state_arrays t)) =
+      sym (length-append words (array_widths net)) ∙ ap length widths ∙ length-append (widths_of_leaves (state_words t)) (flat_map widths_in (state_arrays t)) in
+      let of_net = length-map net.state (leaf_width net.leaves) in
+      let of_source = length-map (state_words t) (λ (p : PlacedLeaf). (number_type p.leaf.holds).width) in
+      omega (arith, long, ap length behind, of_net, of_source)
 
   module _ (whole : IsNet net) (order : List Read) (is_order : IsOrder net order) (one : NetOne net) where
     same_block : (p : PlacedLeaf) (k : ℕ) (r : RegisterAt net.leaves k) → TakesAs t net p r.register → HasBlockIn net r.register ↔ HasBlock t p
