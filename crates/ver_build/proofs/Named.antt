@@ -165,8 +165,8 @@ module _ (net : FlatNet) (t : NameTable) (p : Places) (order : List Read) (is : 
   wires_inner : AreInner (leaf_names (in_parts net t p order)) 0 (names_of (wires (in_parts net t p order)))
   wires_inner =
       rw (all_names_are, wires_sized net t p order, map-map (λ (s : SizedNet). s.0) inner_sized (inners net t p order))
-      (are_inner (ordered_all net t) 0 is.places.resets.last (map inner_name (inners net t p order))
-      (ordered_inner net t is.whole is.table 0 is.places.resets.last (map inner_name (inners net t p order)) (inners_numbered net t p order is)))
+      (are_inner (ordered_all net t) 0 is.places.guards.last (map inner_name (inners net t p order))
+      (ordered_inner net t is.whole is.table 0 is.places.guards.last (map inner_name (inners net t p order)) (inners_numbered net t p order is)))
 
   pub parts_named : IsNamedFor net.name (net_rows net) (net_words net) (net_arrays net) (in_parts net t p order)
   parts_named = record {

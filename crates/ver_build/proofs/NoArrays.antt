@@ -21,7 +21,7 @@ use Rattle.fir_net_names.specs.working.LeafNamed.{name_at}
 use Rattle.ver_build.specs.declared.places.NodePlace.{NodePlace}
 use Rattle.ver_build.specs.declared.places.Places.{Places}
 use Rattle.ver_build.specs.declared.right_sides.Inner.{Inner}
-use Rattle.ver_build.specs.working.Places.{node_at, role_names, leaf_names_at, read_names}
+use Rattle.ver_build.specs.working.Places.{node_at}
 use Rattle.ver_build.specs.working.Built.{role_inners, leaf_inners, read_inners, reset_inners, late_inners, inners, order_inners}
 use Rattle.ver_build.specs.working.ArrayBlocks.{tree_array, tree_arrays, array_write_inners, write_inners, array_block, array_blocks}
 use Rattle.fir_base.specs.Lists.{In}
@@ -66,17 +66,6 @@ module _ (net : FlatNet) (whole : IsNet net) (none : net.arrays ≡ []) where
       by : (o : Option Leaf) → slice_get net.leaves k ≡ o → leaf_inners net t p o (node_at p.readings k) ≡ []
       by None e = refl
       by (Some l) e = no_role_inners t p k l l.role (node_at p.readings k) e refl
-
-  pub no_leaf_names : (nodes readings : List NodePlace) (k : ℕ) → read_names net nodes readings (read.Leaf k) ≡ []
-  no_leaf_names nodes readings k = by (slice_get net.leaves k) refl
-    where
-      of_role : (l : Leaf) (d : Role) → slice_get net.leaves k ≡ Some l → l.role ≡ d → role_names d (node_at readings k) ≡ []
-      of_role l (role.Reading r) there same = absurd (no_reading k l r there same)
-      of_role l _ there same = refl
-
-      by : (o : Option Leaf) → slice_get net.leaves k ≡ o → leaf_names_at o (node_at readings k) ≡ []
-      by None e = refl
-      by (Some l) e = of_role l l.role e refl
 
   pub no_writes : (p : Places) → write_inners net p ≡ []
   no_writes p = ap (flat_map (λ k. array_write_inners net p k (slice_get net.arrays k))) no_order

@@ -96,9 +96,9 @@ module _ (net : FlatNet) (t : NameTable) (p : Places) (order : List Read) (is : 
   -- the names of all
   pub names_once : Distinct (ordered_all net t ++ map inner_name all_inners)
   names_once =
-      let resets = is.places.resets in
-      all_once (ordered_all net t) resets.last (map inner_name all_inners) (ordered_all_once net t is.whole is.table) resets.near
-      (ordered_inner net t is.whole is.table 0 resets.last (map inner_name all_inners) (inners_numbered net t p order is))
+      let guards = is.places.guards in
+      all_once (ordered_all net t) guards.last (map inner_name all_inners) (ordered_all_once net t is.whole is.table) guards.near
+      (ordered_inner net t is.whole is.table 0 guards.last (map inner_name all_inners) (inners_numbered net t p order is))
 
   -- a name of a leaf is none of an inner net
   pub no_inner : (q : Role → Bool) (x : List ℕ) → In (picked q (ordered_names net t) (ordered_leaves net)) x → In (map inner_name all_inners) x → ⊥

@@ -1,7 +1,7 @@
 -- What is built along the writes of an array, with one more.
-use Rattle.std.proofs.Common.{◌≡◌, ℕ, zero, suc, ◌+◌, ◌<◌, List, [], ◌∷◌, ◌++◌, length, get_or, take, flat_map, refl, sym, ap, ◌∙◌, append_assoc, append-nil, arith, Option, Some, None, unwrap_or}
+use Rattle.std.proofs.Common.{◌≡◌, ℕ, zero, suc, ◌+◌, ◌<◌, List, [], ◌∷◌, ◌++◌, length, get_or, take, map, flat_map, refl, sym, ap, ◌∙◌, append_assoc, append-nil, arith, Option, Some, None, unwrap_or}
 use Rattle.std.specs.Prelude.{slice_get}
-use Rattle.std.proofs.lemmas.List.{take_more, length-take}
+use Rattle.std.proofs.lemmas.List.{take_more, length-take, map-append}
 use Rattle.fir_net.specs.declared.array.ArrayWrite.{ArrayWrite}
 use Rattle.ver_build.specs.declared.places.Guard.{Guard}
 use Rattle.ver_build.specs.working.Places.{along_writes, guard_names}
@@ -39,3 +39,11 @@ guards_along f (g ∷ gs) (w ∷ ws) n e same =
     ap (λ (x : Option Guard). guard_names x ++ along_writes (λ j w. guard_names (f j)) (n + 1) ws) here
     ∙ ap (λ (l : List (List ℕ)). guard_names g ++ l)
     (guards_along f gs ws (n + 1) (omega (arith, e)) (λ j. let next : n + 1 + j ≡ n + suc j = omega arith in ap f next ∙ same (suc j)))
+
+-- what is made of each part, and parts that are the same
+pub writes_mapped : {B C : Type 0} → (g : B → C) (f : ℕ → ArrayWrite → List B) (h : ℕ → ArrayWrite → List C)
+    → ((j : ℕ) (w : ArrayWrite) → map g (f j w) ≡ h j w) → (n : ℕ) (ws : List ArrayWrite) → map g (along_writes f n ws) ≡ along_writes h n ws
+writes_mapped g f h same n [] = refl
+writes_mapped {B} {C} g f h same n (w ∷ ws) =
+    map-append g (f n w) (along_writes f (n + 1) ws) ∙ ap (λ (l : List C). l ++ map g (along_writes f (n + 1) ws)) (same n w)
+    ∙ ap (λ (l : List C). h n w ++ l) (writes_mapped g f h same (n + 1) ws)
