@@ -16,7 +16,7 @@ use fir_net::{
 use std::alloc::Global;
 
 /// The name of a leaf, the line where it is declared, its width and its role.
-type Row = (u8, u32, u32, Role);
+pub type Row = (u8, u32, u32, Role);
 
 /// How a register of the nets varies: the line where it is declared, and when its reset takes effect.
 #[derive(Clone, Copy)]
@@ -192,7 +192,7 @@ fn choice() -> Node
     })
 }
 
-fn leaf(number: usize) -> Read
+pub fn leaf(number: usize) -> Read
     ensures { result ≡ Read.Leaf number }
 {
     Read::Leaf(LeafId::new(number))
@@ -219,7 +219,7 @@ fn register(kind: ResetKind, init: Read) -> Role
     })
 }
 
-fn net(
+pub fn net(
     alloc: Global,
     rows: &[Row],
     nodes: Vec<Node>,

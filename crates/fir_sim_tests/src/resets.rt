@@ -48,7 +48,8 @@ pub fn order_of(alloc: Global, net: &FlatNet) -> Result<Order, MemoryOut>
     }
 }
 
-fn shows(sim: &Sim, outputs: &[u128], state: &[u128]) -> bool {
+/// Whether a simulator shows these outputs and this state.
+pub fn shows(sim: &Sim, outputs: &[u128], state: &[u128]) -> bool {
     are_numbers(sim.outputs(), outputs) && are_numbers(sim.state(), state)
 }
 
