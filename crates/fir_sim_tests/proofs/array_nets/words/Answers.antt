@@ -54,7 +54,7 @@ net = record { name = 110 ∷ []; leaves = k ∷ j ∷ c1 ∷ d ∷ a ∷ b ∷ 
 whole : IsNet net
 whole = record {
   leaves = (record { narrow = lit≤ tt; driven = refl }, (record { narrow = lit≤ tt; driven = refl }, (record { narrow = lit≤ tt; driven = tt }, (record { narrow = lit≤ tt; driven = tt }, (record { narrow = lit≤ tt; driven = tt }, (record { narrow = lit≤ tt; driven = tt }, (record { narrow = lit≤ tt; driven = tt }, (record { narrow = lit≤ tt; driven = tt }, (record { narrow = lit≤ tt; driven = tt }, (record { narrow = lit≤ tt; driven = tt }, (record { narrow = lit≤ tt; driven = record { can = (w, refl, refl); kind = refl } }, (record { narrow = lit≤ tt; driven = record { address = (r, refl, refl); has_bits = lit≤ tt; enable = (e, refl, refl); has_one_bit = refl } }, tt))))))))))));
-  ports_first = (refl, tt);
+  ports_first = tt;
   nodes = tt;
   state = state_of net.leaves;
   arrays = (record { narrow = lit≤ tt; has_words = lit≤ tt; writes = (record { clock = (k, refl, refl); addressed = record { address = (a, refl, refl); has_bits = lit≤ tt; enable = (c1, refl, refl); has_one_bit = refl }; given = (x, refl, refl) }, (record { clock = (j, refl, refl); addressed = record { address = (b, refl, refl); has_bits = lit≤ tt; enable = (d, refl, refl); has_one_bit = refl }; given = (y, refl, refl) }, tt)) }, tt);
