@@ -159,11 +159,11 @@ reference-returns-in_default-clause-reads t c = λ end k.
     (elim c.in_default.branch [ reference-in_default-via-in-Mark+in_default w ↦ λ h. search rules | reference-in_default-via-in_default w ↦ λ h. search rules ])
     (elim c.in_default.branch [ reference-in_default-via-in-Mark+in_default w ↦ λ h. search rules | reference-in_default-via-in_default w ↦ λ h. search rules ]))
     end _
-    ∙ ap (λ (s : SinkReference). read_on everywhere end (k s) (rest c.loop-parts.self)) (sym (sink_of_parts c.args.place c.loop-parts.name c.args.name.now c.loop-parts.parts (c.loop-parts.invariant.same_name ∙ c.in_ok-name.ensures)))
+    ∙ ap (λ (s : SinkReference). read_on everywhere end (k s) (rest c.loop-parts.self)) (sym (sink_of_parts c.args.place c.in_ok-name.name c.args.name.now c.loop-parts.parts c.in_ok-name.ensures))
 
 pub reference-returns-in_default-clause-high : goal.reference-returns-in_default-clause-high
 reference-returns-in_default-clause-high t c =
-    (sym (ap sink_height (sink_of_parts c.args.place c.loop-parts.name c.args.name.now c.loop-parts.parts (c.loop-parts.invariant.same_name ∙ c.in_ok-name.ensures)) ∙ c.loop-parts.invariant.high no_parts), c.loop-parts.invariant.low)
+    (sym (ap sink_height (sink_of_parts c.args.place c.in_ok-name.name c.args.name.now c.loop-parts.parts c.in_ok-name.ensures) ∙ c.loop-parts.invariant.high no_parts), c.loop-parts.invariant.low)
 
 pub subindex-returns-in_err-open_one-clause-reads : goal.subindex-returns-in_err-open_one-clause-reads
 subindex-returns-in_err-open_one-clause-reads t c =
