@@ -132,7 +132,6 @@ reference-loop-parts-preserved-in-Dot-1 t c = record {
   leads = part_behind c.args.depth c.loop-parts.height (c.loop-parts.height + 1) c.loop-parts.parts.items c.in_ok-subfield-in-Mark-Dot.field-0 c.push.new.self.items _ _ _ c.loop-parts.invariant.leads c.in_ok-subfield-in-Mark-Dot.ensures.reads c.in_ok-push-in-Mark-Dot.ensures.items;
   high = height_behind c.loop-parts.height (c.loop-parts.height + 1) c.loop-parts.parts.items c.in_ok-subfield-in-Mark-Dot.field-0 c.push.new.self.items c.loop-parts.invariant.high c.in_ok-subfield-in-Mark-Dot.ensures.high c.in_ok-push-in-Mark-Dot.ensures.items;
   low = c.in_ok-subfield-in-Mark-Dot.ensures.low;
-  same_name = c.loop-parts.invariant.same_name;
   nearer = le_trans (le_of_lt c.in_ok-subfield-in-Mark-Dot.ensures.nearer) c.loop-parts.invariant.nearer;
 }
 
@@ -141,7 +140,6 @@ reference-loop-parts-preserved t c = record {
   leads = part_behind c.args.depth c.loop-parts.height c.in_ok-part-in-Mark-OpenSquare.part.height c.loop-parts.parts.items c.in_ok-part-in-Mark-OpenSquare.part.tree c.push-in-Mark-OpenSquare.new.self.items _ _ _ c.loop-parts.invariant.leads c.in_ok-part-in-Mark-OpenSquare.ensures.reads c.in_ok-push-in-Mark-OpenSquare.ensures.items;
   high = height_behind c.loop-parts.height c.in_ok-part-in-Mark-OpenSquare.part.height c.loop-parts.parts.items c.in_ok-part-in-Mark-OpenSquare.part.tree c.push-in-Mark-OpenSquare.new.self.items c.loop-parts.invariant.high c.in_ok-part-in-Mark-OpenSquare.ensures.high c.in_ok-push-in-Mark-OpenSquare.ensures.items;
   low = c.in_ok-part-in-Mark-OpenSquare.ensures.low;
-  same_name = c.loop-parts.invariant.same_name;
   nearer = le_trans (le_of_lt c.in_ok-part-in-Mark-OpenSquare.ensures.nearer) c.loop-parts.invariant.nearer;
 }
 

@@ -72,7 +72,6 @@ invariant-reference-loop-parts l = record {
   leads : (end : Place) (k : Parts → State) → read_on everywhere end (wants (parts l.depth 1) k) (rest l.initial.self) ≡ read_on everywhere end (wants (parts l.depth l.height) (λ ps. k (onto (map part_of l.parts.items) ps))) (rest l.self);
   high : (ps : Parts) → height_with (onto (map part_of l.parts.items) ps) 1 ≡ height_with ps l.height;
   low : l.height ≤ 256;
-  same_name : l.name ≡ l.initial.name;
   nearer : left l.self ≤ left l.initial.self;
 }
 
