@@ -58,7 +58,7 @@ ROWS = [
     Row(texts.instances),
     Row(texts.chain_of_modules, "1 E23"),
     Row(texts.ring_of_modules, "1 E11"),
-    Row(texts.ports_of_one_memory, "1 E05"),
+    Row(texts.ports_of_one_memory),
     Row(texts.one_long_name_used_many_times),
     Row(texts.elements_of_a_long_name, "0", 4096, 8192),
     Row(texts.nodes_that_stand_for_a_long_name, "0", 16000, 32000),

@@ -436,6 +436,54 @@ def one_when_over_all_leaves(count):
     return HEAD_OF_WHENS + ports + "    when a :\n      o <= x\n    else :\n      o <= y\n"
 
 
+# Memories
+
+def fields_of_memory(depth, latency, under, width=8):
+    fields = [f"data-type => UInt<{width}>", f"depth => {depth}", f"read-latency => {latency}",
+              "write-latency => 1", f"read-under-write => {under}"]
+    return "    mem m :\n" + "".join(f"      {field}\n" for field in fields)
+
+
+def reading_port(name, address, clock="clock"):
+    return (f"    m.{name}.addr <= {address}\n    m.{name}.en <= UInt<1>(1)\n"
+            f"    m.{name}.clk <= {clock}\n")
+
+
+def writing_port(name, address, enable, data):
+    return (reading_port(name, address).replace("UInt<1>(1)", enable)
+            + f"    m.{name}.data <= {data}\n    m.{name}.mask <= UInt<1>(1)\n")
+
+
+def large_memory(depth):
+    """A memory of so many words with a reader at once, a late one and a writer, whose address counts
+    up."""
+    width = max(1, (depth - 1).bit_length())
+    head = ("circuit T :\n  module T :\n    input clock : Clock\n    input d : UInt<8>\n"
+            "    output o : UInt<8>\n" + f"    reg c : UInt<{width}>, clock\n"
+            + f"    c <= tail(add(c, UInt<{width}>(1)), 1)\n")
+    return (head + fields_of_memory(depth, 1, "old") + "      reader => r\n      writer => w\n"
+            + reading_port("r", "c") + writing_port("w", "c", "UInt<1>(1)", "xor(d, m.r.data)")
+            + "    o <= m.r.data\n")
+
+
+def memory_of_ports(readers, writers, latency, under):
+    """A memory of 64 words with so many ports, each with an address of its own; what the readers
+    give goes through one chain to the output."""
+    head = ("circuit T :\n  module T :\n    input clock : Clock\n    input a : UInt<6>\n"
+            "    input w : UInt<1>\n    input d : UInt<8>\n    output o : UInt<8>\n")
+    ports = "".join(f"      reader => r{k}\n" for k in range(readers))
+    ports += "".join(f"      writer => w{k}\n" for k in range(writers))
+    lines = [reading_port(f"r{k}", f"xor(a, UInt<6>({k % 64}))") for k in range(readers)]
+    lines += [writing_port(f"w{k}", f"xor(a, UInt<6>({k % 64}))", "w", "d")
+              for k in range(writers)]
+    last = "d"
+    for k in range(readers):
+        lines.append(f"    node n{k} = xor({last}, m.r{k}.data)\n")
+        last = f"n{k}"
+    return head + fields_of_memory(64, latency, under) + ports + "".join(lines) + (
+        f"    o <= {last}\n")
+
+
 # Loops
 
 def ring_of_wires(count):

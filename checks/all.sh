@@ -37,6 +37,7 @@ if command -v python3 >/dev/null 2>&1; then
   count rows 'rows: \([0-9]*\) passed.*'
   rows=$counted
   part operators python3 checks/operator_rows.py --check
+  part memory_examples python3 checks/memory_examples.py
   part grammar python3 checks/grammar.py check
   part cuts python3 checks/grammar.py cuts
   part circuits python3 checks/circuits.py 200

@@ -1,23 +1,24 @@
 """Makes circuits at random, of which firc takes most; many have instances. Outputs and registers
-hang on inputs and on the state. In many each module has an asynchronous reset, which in most of
-these is handed on from the main module as it is. Some circuits have a flaw: a leaf that hangs on
-itself, a form that firc lacks, a leaf that is not driven, clocks that statements or indices pick,
-inits that are no constants, or widths that do not fit."""
+hang on inputs and on the state, and many have memories. In many each module has an asynchronous
+reset, which in most of these is handed on from the main module as it is. Some circuits have a flaw:
+a leaf that hangs on itself, memories on several clocks, a leaf that is not driven, clocks that
+statements or indices pick, inits that are no constants, or widths that do not fit."""
 from cost_rules import leaf_count
 from driven_maker import DEPTH, FORGETS
 from inference_maker import RATES
+from memory_maker import MemoryMaker
 from name_maker import FIELDS
 from name_texts import Line
-from ranked_maker import ABOVE, FIRST, LAST, NODES, RankedMaker
+from ranked_maker import ABOVE, FIRST, LAST, NODES
 from type_forms import NUMBERS, Ground, alike, fits, is_passive, same_kind, without_widths
 from type_maker import called, is_plain, tokens_of
 
-FLAWS = ["none"] * 30 + ["loop"] * 4 + """memory clock clock clock init init init forgotten
+FLAWS = ["none"] * 30 + ["loop"] * 4 + """memory memory clock clock clock init init init forgotten
 forgotten widths widths""".split()
 WORDS = """wire wire node node node reg reg reg reg reg reg connect connect connect connect partial
 invalid""".split()
-# what is made more often where it is wanted
-LACKING = {"memory": ["mem"] * 5}
+# how many of these words are added for memories
+MEMORIES = [0, 0, 1, 2, 4]
 KINDS = ["UInt"] * 5 + ["SInt"] * 3
 RESETS = ("Reset", "AsyncReset")
 MIXING = {"UInt": "add sub mul xor cat not or and".split(),
@@ -32,15 +33,16 @@ def is_reset(given):
     return isinstance(given, Ground) and given.kind in RESETS
 
 
-class CircuitMaker(RankedMaker):
-    """Makes a circuit, whose `flaw` is one of FLAWS."""
+class CircuitMaker(MemoryMaker):
+    """Makes a circuit, whose `flaw` is one of FLAWS, or of those that are given."""
 
     sizes = [1, 2, 3, 5, 8, 14]
     pays, holds, clears = 0.15, 0.15, 0.1
 
-    def __init__(self, chance):
-        self.flaw = chance.choice(FLAWS)
-        self.own_words = WORDS + LACKING.get(self.flaw, [])
+    def __init__(self, chance, flaws=tuple(FLAWS)):
+        self.flaw = chance.choice(flaws)
+        self.mixes_clocks = self.flaw == "memory"
+        self.own_words = WORDS + ["mem"] * (chance.choice(MEMORIES) + 2 * self.mixes_clocks)
         self.slips_of_rank = chance.choice([0.05, 0.3]) if self.flaw == "loop" else 0
         # whether all widths of what has been read lately are written
         self.is_known = True
@@ -92,7 +94,8 @@ class CircuitMaker(RankedMaker):
         return super().module(head)
 
     def ports(self, head):
-        chance, clocks = self.chance, self.chance.choice([0, 1, 1, 1, 1, 2, 3])
+        chance = self.chance
+        clocks = chance.choice([1, 2, 3] if self.mixes_clocks else [0, 1, 1, 1, 1, 2, 3])
         ports = [self.port(head, "input", Ground("Clock")) for _ in range(clocks)]
         ports += [self.port(head, "input", self.ground(NUMBERS)) for _ in range(3)]
         ports.append(self.port(head, "input", Ground("UInt", 1)))
@@ -113,7 +116,8 @@ class CircuitMaker(RankedMaker):
 
     def show(self, name, given, flow, depth=DEPTH):
         """Of a node no width is known, whatever its expression was made for."""
-        super().show(name, without_widths(given) if flow == "source" else given, flow, depth)
+        is_node = flow == "source" and self.memory is None
+        super().show(name, without_widths(given) if is_node else given, flow, depth)
 
     # Expressions.
 

@@ -6,7 +6,7 @@ emitted; what is emitted is run by the simulator, and by Icarus Verilog where th
 from a random state over random ticks, and shows the values that Python's integers give
 (tick_rules.py). Icarus is not asked where a net wider than 64 bits is divided, which Icarus 11.0
 does wrongly, and where an asynchronous reset is logic (test_bench.py). With `faults` texts with
-faults of every code from E04 to E24 are refused with their line (fault_texts.py).
+faults of every code from E04 to E28 are refused with their line (fault_texts.py).
 
 usage: circuits.py [--program PATH] COUNT [SEED]
        circuits.py [--program PATH] faults COUNT [SEED]
@@ -51,7 +51,7 @@ def random_run(source, chance):
     for _ in range(TICKS):
         rising = [k for k in range(len(source.clocks)) if chance.random() < 0.5]
         ticks.append((rising, values(source.inputs)))
-    return values(source.words), ticks
+    return [value(width) for width in source.state_widths()], ticks
 
 
 def shown_by_icarus(work, verilog, lines):

@@ -1,9 +1,9 @@
 """The names of the emitted text, worked out once more from the rule.
 
-The leaves of the main module's ports take the names of their paths, joined by `_`, and then those of the
-registers: a name that is reserved in Verilog or taken before gets the first free of `_0`, `_1` and
-so on behind it. What has no bits takes no name, and neither do wires and nodes. A module whose name
-is reserved gets `_0` behind it.
+The leaves of the main module's ports take the names of their paths, joined by `_`, then those of the
+registers and of what memories read late, and then the arrays of memories: a name that is reserved in
+Verilog or taken before gets the first free of `_0`, `_1` and so on behind it. What has no bits takes
+no name, and neither do wires and nodes. A module whose name is reserved gets `_0` behind it.
 """
 RESERVED = """always and assign automatic begin buf bufif0 bufif1 case casex casez cell cmos config
 deassign default defparam design disable edge else end endcase endconfig endfunction endgenerate
@@ -30,14 +30,25 @@ def free(name, taken):
 
 
 def emitted_names(source):
-    """The emitted name of each leaf of a port and of a register, by its path in the source; in port
-    order, then in that of the state."""
+    """The emitted name of each leaf of a port and of a register, and of what a memory reads late, by
+    its path in the source, and that of each array; in port order, then in that of the state."""
     names, taken = {}, set()
-    for path in source.ports + source.words:
-        if source.leaves[path].is_clock() or source.leaves[path].type().width:
-            names[path] = free(spelled(path), taken)
-            taken.add(names[path])
+    paths = [(path, path) for path in source.ports + source.words
+             if source.leaves[path].is_clock() or source.leaves[path].type().width]
+    for key, path in paths + [(array, array.path()) for array in source.arrays.values()]:
+        names[key] = free(spelled(path), taken)
+        taken.add(names[key])
     return names
+
+
+def emitted_words(source):
+    """The emitted name of each word of the state, in its order; behind that of an array stands the
+    number of the word, or None."""
+    names = emitted_names(source)
+    words = [(names[path], None) for path in source.words]
+    for array in source.arrays.values():
+        words += [(names[array], address) for address in range(array.memory().depth)]
+    return words
 
 
 def emitted_module(source):

@@ -3,10 +3,11 @@
 shows.
 
 A trace begins with a line `init NAME HEX` for each word of the state, with its name of the emitted
-text. Then each line is a tick: `-`, or the numbers of the clocks that rise, counted from 0 in port
-order, rising, parted by commas; and the value of each input. A line of NAME.expected has the
-outputs of a tick, `|`, and the state after it. All are parted by single spaces, and values are
-hexadecimal in lower case with as many digits as the width needs; leaves of no bits are left out.
+text, and `init NAME ADDR HEX` for each word of an array. Then each line is a tick: `-`, or the
+numbers of the clocks that rise, counted from 0 in port order, rising, parted by commas; and the value
+of each input. A line of NAME.expected has the outputs of a tick, `|`, and the state after it. All are
+parted by single spaces, and values are hexadecimal in lower case with as many digits as the width
+needs; leaves of no bits are left out.
 
 A trace that begins with a remark, a line with `#` in front, is written by hand and stays as it is.
 All others are of 64 ticks, made here. In a circuit with a reset it is 1 at the first tick and
@@ -18,7 +19,7 @@ a Verilog tool. Run it with --check to compare with the files that are there.
 import pathlib
 import sys
 
-from emitted_names import emitted_names
+from emitted_names import emitted_words
 from source_rules import Source
 from tick_rules import tick
 
@@ -62,7 +63,7 @@ def drawn_input(path, line, width, drawn):
 def drawn_trace(source):
     """The initial state, and the ticks as the numbers of the clocks that rise and the inputs."""
     numbers = draws(0)
-    init = [next(numbers) % (1 << width) for width in source.widths(source.words)]
+    init = [next(numbers) % (1 << width) for width in source.state_widths()]
     ticks, widths = [], source.widths(source.inputs)
     for line in range(TICKS):
         rising = drawn_clocks(source, line, next(numbers))
@@ -79,12 +80,12 @@ def read_trace(source, text):
         if line.startswith("#") or not line:
             continue
         if words[0] == "init":
-            init[words[1]] = int(words[2], 16)
+            address = int(words[2]) if len(words) == 4 else None
+            init[words[1], address] = int(words[-1], 16)
         else:
             rising = [] if words[0] == "-" else [int(k) for k in words[0].split(",")]
             ticks.append((rising, [int(value, 16) for value in words[1:]]))
-    names = emitted_names(source)
-    return [init.get(names[path], 0) for path in source.words], ticks
+    return [init.get(word, 0) for word in emitted_words(source)], ticks
 
 
 def hexadecimals(widths, values):
@@ -93,10 +94,9 @@ def hexadecimals(widths, values):
 
 def trace_lines(source, init, ticks):
     """The lines of NAME.trace."""
-    names = emitted_names(source)
-    values = hexadecimals(source.widths(source.words), init)
-    for path, value in zip(source.words, values):
-        yield f"init {names[path]} {value}"
+    values = hexadecimals(source.state_widths(), init)
+    for (name, address), value in zip(emitted_words(source), values):
+        yield f"init {name} {value}" if address is None else f"init {name} {address} {value}"
     widths = source.widths(source.inputs)
     for rising, inputs in ticks:
         yield " ".join([",".join(map(str, rising)) or "-"] + hexadecimals(widths, inputs))
@@ -104,7 +104,7 @@ def trace_lines(source, init, ticks):
 
 def shown_lines(source, init, ticks):
     """The lines of NAME.expected."""
-    widths, word_widths = source.widths(source.outputs), source.widths(source.words)
+    widths, word_widths = source.widths(source.outputs), source.state_widths()
     state = init
     for rising, inputs in ticks:
         shown, state = tick(source, state, rising, inputs)

@@ -1,5 +1,5 @@
-"""Texts made at random with a fault of each code from E04 to E24, by the makers of the checks that
-compare one group of faults each."""
+"""Texts made at random with a fault of each code from E04 to E28, by the makers of the checks that
+compare one group of faults each; those of designs by the maker of circuits, with a flaw."""
 import re
 from typing import NamedTuple
 
@@ -9,6 +9,7 @@ import grammar
 import names
 import nesting_maker
 import typed
+from circuit_maker import CircuitMaker
 from grammar_rules import EXPRESSIONS, STATEMENTS, TYPES, Bad
 from inference_maker import InferenceMaker
 from name_texts import Writer
@@ -66,6 +67,10 @@ def with_open_widths(chance):
     return Writer(chance).text(InferenceMaker(chance).line())
 
 
+def with_flaw(chance):
+    return Writer(chance).text(CircuitMaker(chance, ["clock", "memory", "init", "loop"]).line())
+
+
 # What makes texts, and what reads them, for which codes.
 MAKERS = [
     (with_changes, of_grammar, "E04"),
@@ -77,8 +82,9 @@ MAKERS = [
     (with_open_widths, of_circuit, "E1[89]|E2[0-2]"),
     (costs.made, of_circuit, "E23"),
     (lambda chance: driven.made(chance)[0], of_circuit, "E24"),
+    (with_flaw, of_circuit, "E2[5-8]"),
 ]
-OFTEN = [3, 2, 1, 1, 4, 6, 6, 1, 3]
+OFTEN = [3, 2, 1, 1, 4, 6, 6, 1, 3, 4]
 
 
 def made_with_fault(chance):

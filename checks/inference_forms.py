@@ -106,6 +106,26 @@ class Words(NamedTuple):
     data: object
 
 
+class Port(NamedTuple):
+    """A port of a memory, with the word of its kind."""
+    word: str
+    name: str
+
+
+class Memory(NamedTuple):
+    """What the fields of a memory say: the type of its words and how many they are, the latency of
+    reads, whether these see what is written at the same edge, and the ports in their order."""
+    data: object
+    depth: int
+    latency: int
+    is_new: bool
+    ports: tuple
+
+    def type(self):
+        return Bundle(tuple(Field(port.name, True, memory_port(port.word, self.data, self.depth))
+                            for port in self.ports))
+
+
 class Joined(NamedTuple):
     """What a connect, a node or an init (`how`) joins."""
     how: str
@@ -215,11 +235,11 @@ class Line(type_rules.Line):
 
 
 class Module:
-    """A module: its ports, its steps in the order of the text, those of whens in theirs, and the
-    modules of its instances."""
+    """A module: its ports, its steps in the order of the text, those of whens in theirs, the modules
+    of its instances, and its memories."""
 
     def __init__(self, name, block):
-        self.name, self.instances = name, {}
+        self.name, self.instances, self.memories = name, {}, {}
         self.ports = [self.port(Line(ts, {})) for ts, _ in block if is_port(ts)]
         self.steps = list(self.ports)
 
@@ -295,14 +315,20 @@ class Module:
             self.steps += [Asked(condition), Stands(init), Joined("init", driven, init)]
 
     def mem(self, line, at, name, inner):
-        fields = [(ts[0].spelling, Line(ts[2:], {})) for ts, _ in inner]
-        first = dict(reversed(fields))
-        data, depth = first["data-type"].type(), first["depth"].number()
-        ports = [Field(port.spelling, True, memory_port(word, data, depth))
-                 for word, field in fields if word in ("reader", "writer", "readwriter")
-                 for port in field.ts]
-        self.steps.append(Words(depth, data))
-        self.declare(line, "mem", at, name, Bundle(tuple(ports)), None if ports else data)
+        memory = self.memories[name] = memory_of(inner)
+        self.steps.append(Words(memory.depth, memory.data))
+        self.declare(line, "mem", at, name, memory.type(), None if memory.ports else memory.data)
+
+
+def memory_of(inner):
+    """The memory of these fields."""
+    fields = [(ts[0].spelling, Line(ts[2:], {})) for ts, _ in inner]
+    first = dict(reversed(fields))
+    ports = tuple(Port(word, port.spelling) for word, field in fields
+                  if word in ("reader", "writer", "readwriter") for port in field.ts)
+    under = first["read-under-write"].take() if "read-under-write" in first else "old"
+    return Memory(opened(first["data-type"].type()), first["depth"].number(),
+                  first["read-latency"].number(), under == "new", ports)
 
 
 class Circuit:

@@ -1,6 +1,6 @@
 """A second reading of the rule of inits (E27): what gives a register with an asynchronous reset its
-init hangs on no input of the main module and on no register. For texts in which no fault stands
-that comes before.
+init hangs on no input of the main module and on no leaf that shows state: a register, or what a
+memory gives. For texts in which no fault stands that comes before.
 
 Told is the first such register, by its place, and of several leaves at one place the first in the
 order of the design; with a shortest walk from a leaf that its init reads.
@@ -13,7 +13,7 @@ from clock_rules import in_text
 
 class Inits:
     """The first register whose init is no constant, as `leaf`, or None; and how many steps each
-    leaf has to the nearest input or register."""
+    leaf has to the nearest input or leaf that shows state."""
 
     def __init__(self, source, walks):
         self.source, self.walks = source, walks
@@ -24,7 +24,7 @@ class Inits:
         self.leaf = min(wrong, key=lambda leaf: (in_text(leaf.at), leaf.copy.number), default=None)
 
     def firsts(self, leaf):
-        """The leaves that an init reads and from which a walk leads to an input or a register."""
+        """The leaves that an init reads and from which a walk leads to an input or to state."""
         return set(self.walks.read_by_init(leaf)) & self.far.keys()
 
     def steps_to_end(self):
@@ -33,7 +33,7 @@ class Inits:
             for there in self.walks.beside(path):
                 before[there].append(path)
         far = {path: 0 for path, leaf in self.source.leaves.items()
-               if leaf.is_input() or leaf.word == "reg"}
+               if leaf.is_input() or leaf.is_state()}
         work = deque(far)
         while work:
             here = work.popleft()

@@ -28,9 +28,9 @@ if has python3; then
   python3 checks/expected.py --check || fail "traces or expected lines are not those of the sources"
 fi
 
-# Whether each register of the text has a block.
+# Whether each register of the text has a block. The line of an array ends with its depth.
 drives_registers() {
-  awk '$1 == "reg" { held[$NF] }
+  awk '$1 == "reg" && $NF !~ /\]/ { held[$NF] }
     $1 == "always" { for (k = 2; k < NF && $k != "<="; k++) target = $k; delete held[target ";"] }
     END { for (r in held) exit 1 }' "$1"
 }

@@ -3,7 +3,8 @@
 Each leaf that statements drive has a rank, and is driven by what has less alone. All but constants
 may read inputs and registers, and registers may read all. A node has the rank of what it reads.
 What has less rank than inputs is a constant. A register whose reset may be asynchronous hangs on
-it: what reads the register has more rank than what the reset reads, and its init is a constant."""
+it: what reads the register has more rank than what the reset reads, and its init is a constant. What
+a memory gives at once has more rank than what picks it."""
 import re
 
 from driven_maker import DEPTH, DrivenMaker, parts
@@ -34,8 +35,9 @@ class RankedMaker(DrivenMaker):
         # `floor` at most, and all that has been read lately `read`
         self.limit, self.floor, self.read = ABOVE, LEAST, LEAST
         # the rank at which a register is read that is declared; that of the inputs of an instance
-        # that is declared; of a vector that is driven in turn the elements before
-        self.register, self.inputs, self.before = None, None, []
+        # that is declared; what is known of a memory that is declared; of a vector that is driven in
+        # turn the elements before
+        self.register, self.inputs, self.memory, self.before = None, None, None, []
         super().__init__(chance, *rates)
 
     # Ranks.
@@ -56,18 +58,20 @@ class RankedMaker(DrivenMaker):
             path = path_of(part)
             self.ranks.setdefault(path, (ABOVE, LEAST))
             if isinstance(part.type, Ground):
-                driven, read = self.ranks_of_leaf(part.flow, least)
+                driven, read = self.ranks_of_leaf(part, least)
                 for count in range(1, len(path) + 1):
                     low, high = self.ranks[path[:count]]
                     self.ranks[path[:count]] = min(low, driven), max(high, read)
 
-    def ranks_of_leaf(self, flow, least):
+    def ranks_of_leaf(self, part, least):
         if self.register is not None:
             return LAST, self.register
         if self.inputs is not None:
-            is_input = flow == "sink"
+            is_input = part.flow == "sink"
             return (self.inputs, self.inputs) if is_input else (ABOVE, self.inputs + HIGHER)
-        if flow == "source":
+        if self.memory is not None:
+            return self.memory.ranks(part)
+        if part.flow == "source":
             return ABOVE, self.read
         rank = self.some_rank(least)
         return rank, rank

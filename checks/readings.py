@@ -1,7 +1,7 @@
 """What the second readings say of a text of the grammar, in the order in which firc tells faults:
 those of names, of modules that instantiate each other, of types and flows, of resets and widths,
-of costs, of leaves that a choice leaves undriven, then the first form that firc lacks, then those of
-clocks, of the inits of asynchronous resets, then a walk on which a leaf hangs on itself."""
+of costs, of leaves that a choice leaves undriven, of clocks, of the clocks of memories, of the inits
+of asynchronous resets, then a walk on which a leaf hangs on itself."""
 import math
 import re
 
@@ -10,14 +10,14 @@ from cost_rules import cost_fault
 from driven_rules import driven_fault
 from inference_rules import Inferred
 from init_rules import Inits
-from lacking_rules import first_lacking
+from memory_clock_rules import memory_clock_fault
 from name_rules import Names
 from source_rules import Source
 from type_rules import Types
 from walk_rules import Walks
 
 OF_WIDTHS = "|E1[89] .*|E2[0-2] .*"
-OF_LEAVES = "|E24 .*|E05 .*|E25 .*|E2[78] .*"
+OF_LEAVES = "|E2[4-8] .*"
 # The readings of resets, widths and leaves list each element of each vector.
 MOST_ELEMENTS = 10000
 
@@ -55,11 +55,10 @@ class Reading:
         if inferred.code() == "E18":
             self.inferred = inferred
             return None
-        line = (inferred.line or cost_fault(text) or driven_fault(text)
-                or first_lacking(text))
+        line = inferred.line or cost_fault(text) or driven_fault(text)
         if line is None:
             source = Source(text)
-            line = clock_fault(source)
+            line = clock_fault(source) or memory_clock_fault(source)
             if line is None:
                 self.judge_walks(source)
         return line

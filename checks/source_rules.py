@@ -59,7 +59,8 @@ class Leaf(NamedTuple):
     """A ground leaf: the word of its declaration, its place, the copy in which it is driven or, if
     nothing drives it, declared; its name there, the path behind that, its type, and how many whens
     stand round the declaration. The word of an input of an instance is `inst`, that of an output
-    `output`; a flipped leaf of an output of the main module has `input`."""
+    `output`; a flipped leaf of an output of the main module has `input`. What a memory's port reads
+    has `reading`, where that is read at once, or `pipe`; all else of the port has `mem`."""
     word: str
     at: str
     copy: Copy
@@ -77,7 +78,11 @@ class Leaf(NamedTuple):
 
     def is_sink(self):
         """What statements drive, registers apart."""
-        return self.word in ("inst", "output", "wire")
+        return self.word in ("inst", "output", "wire", "mem")
+
+    def is_state(self):
+        """Whether it shows state, at once or by what it reads of a memory."""
+        return self.word in ("reg", "reading", "pipe")
 
     def type(self):
         return Type(self.ground.kind == "SInt", held(self.ground))
@@ -93,6 +98,53 @@ class Leaf(NamedTuple):
     def is_async(self):
         """Of a register with an asynchronous reset."""
         return self.word == "reg" and self.register().is_async
+
+    def memory(self):
+        """The memory whose port it is a leaf of."""
+        return self.copy.module.memories[self.name]
+
+    def port(self):
+        """The path of that port in the design."""
+        return self.copy.prefix + self.name + parted(self.path)[0]
+
+    def within(self):
+        """Its path in the words of the memory."""
+        return "".join(parted(self.path)[2:])
+
+    def needs(self):
+        """Of what a port reads: the fields of the port that have to be 1, and those that have to be
+        0, for a word to be read."""
+        is_both = parted(self.path)[1] == ".rdata"
+        return ["en"], ["wmode"] if is_both else []
+
+
+class Array(NamedTuple):
+    """A leaf of a memory's words in a copy: the memory's name, the path of the leaf in its words,
+    its type, and where its words begin among those of all arrays."""
+    copy: Copy
+    name: str
+    within: str
+    ground: Ground
+    begin: int
+
+    def path(self):
+        return self.copy.prefix + self.name + self.within
+
+    def width(self):
+        return held(self.ground)
+
+    def memory(self):
+        return self.copy.module.memories[self.name]
+
+    def writes(self):
+        """The paths of its memory's ports that write, in their order, each with its fields that have
+        to be 1, among them the mask, and that of what is written."""
+        for port in self.memory().ports:
+            at = f"{self.copy.prefix}{self.name}.{port.name}"
+            if port.word == "writer":
+                yield at, ["en", "mask" + self.within], "data" + self.within
+            elif port.word == "readwriter":
+                yield at, ["en", "wmode", "wmask" + self.within], "wdata" + self.within
 
 
 class Module(inference_forms.Module):
@@ -179,8 +231,10 @@ class Source:
         self.name, self.modules = circuit.main, circuit.modules
         for module in self.modules.values():
             module.know_kinds(resets)
-        # leaves by their paths in the order of their numbers; and words in that of the statements
-        self.copies, self.leaves, self.words, self.known_drives = [], {}, [], {}
+        # leaves by their paths in the order of their numbers; and in that of the statements words
+        # of the state, and behind them arrays by their copies, memories and paths within
+        self.copies, self.leaves, self.known_drives = [], {}, {}
+        self.words, self.arrays = [], {}
         main = Copy("", self.modules[self.name])
         for port in main.module.ports:
             for path, ground, is_flipped in leaves(port.type):
@@ -213,15 +267,34 @@ class Source:
                 inside[step.name] = Copy(f"{copy.prefix}{step.name}.", of)
                 self.face(copy, step, inside[step.name], depth)
                 continue
-            for path, ground, _ in leaves(step.type):
+            for path, ground, is_flipped in leaves(step.type):
+                word = step.word
+                if word == "mem" and not is_flipped:
+                    word = "pipe" if copy.module.memories[step.name].latency else "reading"
                 self.declare(copy.prefix,
-                             Leaf(step.word, step.at, copy, step.name, path, ground, depth))
+                             Leaf(word, step.at, copy, step.name, path, ground, depth))
         for step in declared:
             if step.word == "inst":
                 self.enter(inside[step.name])
-            elif step.word == "reg":
-                self.words += [copy.prefix + step.name + path for path, ground, _ in
-                               leaves(step.type) if held(ground)]
+            elif step.word in ("reg", "mem"):
+                paths = [copy.prefix + step.name + path for path, ground, _ in leaves(step.type)
+                         if held(ground)]
+                self.words += [path for path in paths
+                               if self.leaves[path].word in ("reg", "pipe")]
+            if step.word == "mem":
+                self.enter_arrays(copy, step.name)
+
+    def enter_arrays(self, copy, name):
+        """Lists the arrays of a memory, without those that have no bits."""
+        memory = copy.module.memories[name]
+        for path, ground, _ in leaves(memory.data):
+            if held(ground):
+                begin = self.count_of_array_words()
+                self.arrays[copy, name, path] = Array(copy, name, path, ground, begin)
+
+    def count_of_array_words(self):
+        last = next(reversed(self.arrays.values()), None)
+        return last.begin + last.memory().depth if last else 0
 
     def face(self, copy, step, inside, depth):
         """Declares the leaves of an instance's ports."""
@@ -237,6 +310,13 @@ class Source:
 
     def widths(self, paths):
         return [self.leaves[path].type().width for path in paths]
+
+    def state_widths(self):
+        """The widths of the words of the state, and behind them of those of the arrays."""
+        widths = self.widths(self.words)
+        for array in self.arrays.values():
+            widths += [array.width()] * array.memory().depth
+        return widths
 
     def drives_of(self, leaf):
         """The sides that may drive a leaf, the last first, each with the path of the leaf that

@@ -17,7 +17,7 @@ usage: test_bench.py SOURCE.fir SOURCE.trace
 import pathlib
 import sys
 
-from emitted_names import emitted_module, emitted_names
+from emitted_names import emitted_module, emitted_names, emitted_words
 from expected import read_trace
 from inference_forms import Literal, Reference
 from source_rules import Source
@@ -47,7 +47,7 @@ def shows(task, shape, values):
 def clocks_of_outputs(source):
     """The numbers of the clocks that the clock outputs have, or None of one without a clock. They
     are the same at all ticks."""
-    now = Tick(source, [0] * len(source.words), [0] * len(source.inputs))
+    now = Tick(source, [0] * len(source.state_widths()), [0] * len(source.inputs))
     return [now.clock(path) for path in source.clock_outputs]
 
 
@@ -109,7 +109,9 @@ def tick(source, words, given, rising, inputs):
 def test_bench(source, init, ticks):
     """The lines of the bench, for an initial state and ticks as `read_trace` gives them."""
     names, module = emitted_names(source), emitted_module(source)
-    words, given = [names[path] for path in source.words], clocks_of_outputs(source)
+    words = [name if address is None else f"{name}[{address}]"
+             for name, address in emitted_words(source)]
+    given = clocks_of_outputs(source)
     yield f"module {'bench_0' if module == 'bench' else 'bench'};"
     yield from variables("reg", "i", source.widths(source.inputs))
     yield from variables("reg", "c", [1] * len(source.clocks))
@@ -120,7 +122,7 @@ def test_bench(source, init, ticks):
     yield from (f"    c{k} = 0;" for k in range(len(source.clocks)))
     yield from (f"    i{k} = 0;" for k in range(len(source.inputs)))
     yield "    #1"
-    for word, width, value in zip(words, source.widths(source.words), init):
+    for word, width, value in zip(words, source.state_widths(), init):
         yield f"    dut.{word} = {width}'h{value:x};"
     for rising, inputs in ticks:
         held = [f"dut.{word}" for word in words]

@@ -4,7 +4,10 @@ before E28.
 The value of a leaf is found when it is asked for: of the statements that may drive it the last one
 whose whens count and whose indices pick it. A clock's value is the number of the clock input of the
 main module at which its drivers end, or None. A register shows its state; but while an asynchronous
-reset of it is 1 it shows its init, and takes that at the tick, whether its clock rises or not.
+reset of it is 1 it shows its init, and takes that at the tick, whether its clock rises or not. What
+a memory's port reads is the word at its address, or zero past the depth and where it is not enabled:
+at once, or from the edge of its clock on, at which it read what stood there before all writes of
+the tick, or, of a memory with `new`, behind them.
 """
 import sys
 
@@ -22,6 +25,7 @@ class Tick:
 
     def __init__(self, source, state, inputs):
         self.source, self.state, self.known = source, dict(zip(source.words, state)), {}
+        self.array_words = list(state[len(source.words):])
         for path, number in zip(source.inputs, inputs):
             self.known[path] = source.leaves[path].type().value(number)
 
@@ -38,10 +42,27 @@ class Tick:
             if leaf.is_async() and self.is_reset(leaf):
                 return self.init(leaf)
             return leaf.type().value(self.state.get(path, 0))
+        if leaf.word == "pipe":
+            return leaf.type().value(self.state.get(path, 0))
+        if leaf.word == "reading":
+            return self.word_read(leaf, self.array_words)
         if leaf.word == "node":
             given = self.evaluated(leaf.copy, leaf.copy.module.nodes[leaf.name], leaf.path)
             return leaf.type().value(given.number)
         return self.stored(leaf)
+
+    def word_read(self, leaf, words):
+        """What a memory's port reads, where the arrays have these words."""
+        ones, zeros = leaf.needs()
+        is_read = (all(self.port_value(leaf.port(), field) == 1 for field in ones)
+                   and all(self.port_value(leaf.port(), field) == 0 for field in zeros))
+        address = self.port_value(leaf.port(), "addr")
+        array = self.source.arrays.get((leaf.copy, leaf.name, leaf.within()))
+        is_there = array and address < leaf.memory().depth
+        return leaf.type().value(words[array.begin + address] if is_read and is_there else 0)
+
+    def port_value(self, port, field):
+        return self.value(f"{port}.{field}").number
 
     def last_drive(self, leaf):
         """The side that drives a leaf at this tick, with the path of the leaf in what gives; or
@@ -129,8 +150,28 @@ class Tick:
 
     def after(self, rising):
         """The state behind the tick, at which the clocks of these numbers rise."""
-        return [self.next_value(path, self.source.leaves[path], rising).bits()
-                for path in self.source.words]
+        left = self.array_words_after(rising)
+        return [self.next_word(path, self.source.leaves[path], rising, left).bits()
+                for path in self.source.words] + left
+
+    def array_words_after(self, rising):
+        """The words of the arrays behind the tick, which the ports write one after the other."""
+        words = list(self.array_words)
+        for array in self.source.arrays.values():
+            for port, ones, given in array.writes():
+                is_written = (self.clock(f"{port}.clk") in rising
+                              and all(self.port_value(port, field) == 1 for field in ones))
+                address = self.port_value(port, "addr")
+                if is_written and address < array.memory().depth:
+                    words[array.begin + address] = self.value(f"{port}.{given}").bits()
+        return words
+
+    def next_word(self, path, leaf, rising, left):
+        if leaf.word == "reg":
+            return self.next_value(path, leaf, rising)
+        if self.clock(f"{leaf.port()}.clk") not in rising:
+            return self.value(path)
+        return self.word_read(leaf, left if leaf.memory().is_new else self.array_words)
 
     def next_value(self, path, leaf, rising):
         clock = self.clock(leaf.copy.prefix + leaf.register().clock.path())

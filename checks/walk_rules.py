@@ -22,6 +22,9 @@ class Walks:
             return self.read(leaf.copy, leaf.copy.module.nodes[leaf.name], leaf.path)
         if leaf.is_async():
             return [*self.read(leaf.copy, leaf.register().condition), *self.read_by_init(leaf)]
+        if leaf.word == "reading":
+            ones, zeros = leaf.needs()
+            return [f"{leaf.port()}.{field}" for field in ["addr", *ones, *zeros]]
         return self.driving(leaf) if leaf.is_sink() else ()
 
     def read_by_init(self, leaf):

@@ -38,6 +38,7 @@ module _ (m : Leaf) (leaves : List Leaf) (base place : ℕ) (rest : IsNumbered (
   behind (role.Wire d) is = behind_other (ap is_clock_input is) (ap (λ (r : Role). clock_number r m.width base) is)
   behind (role.Register d) is = behind_other (ap is_clock_input is) (ap (λ (r : Role). clock_number r m.width base) is)
   behind (role.Reading d) is = behind_other (ap is_clock_input is) (ap (λ (r : Role). clock_number r m.width base) is)
+  behind (role.Pipe d) is = behind_other (ap is_clock_input is) (ap (λ (r : Role). clock_number r m.width base) is)
   behind (role.ClockOutput c) is = behind_other (ap is_clock_input is) (ap (λ (r : Role). clock_number r m.width base) is)
   behind (role.ClockWire c) is = behind_other (ap is_clock_input is) (ap (λ (r : Role). clock_number r m.width base) is)
 

@@ -25,6 +25,7 @@ drives (role.Output d) j e = cc
 drives (role.Wire d) j e = cc
 drives (role.Register d) j e = cc
 drives (role.Reading d) j e = cc
+drives (role.Pipe d) j e = cc
 
 driver_is : (r : Role) (j : ℕ) → clock_driver r ≡ Some (Some j) → role_driver r ≡ Some j
 driver_is (role.ClockOutput c) j e = cc
@@ -35,6 +36,7 @@ driver_is (role.Output d) j e = cc
 driver_is (role.Wire d) j e = cc
 driver_is (role.Register d) j e = cc
 driver_is (role.Reading d) j e = cc
+driver_is (role.Pipe d) j e = cc
 
 numbers : (r : Role) (m n : ℕ) → role_number m r ≡ Some n → (r ≡ role.Clock) × (m ≡ n)
 numbers role.Clock m n e = (refl, cc)
@@ -43,6 +45,7 @@ numbers (role.Output d) m n e = cc
 numbers (role.Wire d) m n e = cc
 numbers (role.Register d) m n e = cc
 numbers (role.Reading d) m n e = cc
+numbers (role.Pipe d) m n e = cc
 numbers (role.ClockOutput c) m n e = cc
 numbers (role.ClockWire c) m n e = cc
 
@@ -54,6 +57,7 @@ no_driver (role.Output x) m n j e d = cc
 no_driver (role.Wire x) m n j e d = cc
 no_driver (role.Register x) m n j e d = cc
 no_driver (role.Reading x) m n j e d = cc
+no_driver (role.Pipe x) m n j e d = cc
 no_driver (role.ClockOutput c) m n j e d = cc
 no_driver (role.ClockWire c) m n j e d = cc
 

@@ -1,11 +1,11 @@
 -- What the one chain of passes says of the circuit of a text: that it is taken, or why the text is refused.
-use Rattle.std.proofs.Common.{ℕ, List, inl, inr, arith}
+use Rattle.std.proofs.Common.{ℕ, List, inr, arith}
 use Rattle.fir_ast.specs.declared.circuit.Circuit.{Circuit}
 use Rattle.fir_ast.specs.declared.fault.FirFault.{FirFault}
 use Rattle.fir_ast.specs.working.CodeFaults.{fault_of}
 use Rattle.fir_ast.specs.Circuits.{CircuitTree}
 use Rattle.fir_ast.specs.Faults.{Fault}
-use Rattle.fir_parse.specs.Spells.{Spells, terminals}
+use Rattle.fir_parse.specs.Spells.{Spells}
 use Rattle.fir_pass.specs.Groups.{of_names, of_hierarchy, of_types, of_resets, of_widths, of_cost, of_drivers, of_clocks, of_inits, of_loops}
 use Rattle.fir_pass.specs.declared.alternative.Either.{Either}
 use Rattle.fir_pass.specs.declared.alternative.Either.TheVariants.{One, Two}
@@ -13,13 +13,10 @@ use Rattle.fir_pass.specs.working.Either.{clear_of_both, reported_by}
 use Rattle.fir_meaning.specs.SourceMeaning.{circuit_meaning}
 use Rattle.fir_meaning.specs.working.Stages.{IsClearOf, IsFirstOf}
 use Rattle.fir_net.specs.declared.net.FlatNet.{FlatNet}
-use Rattle.fir_outcome.specs.CircuitFaults.{LacksNone}
 use Rattle.fir_outcome.specs.Emits.{Takes}
-use Rattle.fir_outcome.specs.Refusals.{Lacks, RefusedFor}
-use Rattle.fir_compile.specs.working.Lacks.{ShowsLack}
+use Rattle.fir_outcome.specs.Refusals.{RefusedFor}
 use Rattle.fir_compile.specs.working.Told.{told_by}
-use Rattle.fir_compile.proofs.ChainGroups.{both_clear, clear_all, first_of_both}
-use Rattle.fir_compile.proofs.LackTokens.{lack_names_its_token}
+use Rattle.fir_compile.proofs.ChainGroups.{both_clear, clear_all, first_of_both, first_of_one, first_of_two}
 
 -- a fault with what the pass was given
 abbrev Given : Type 0
@@ -63,17 +60,17 @@ abbrev FromClocks : CircuitTree → NetFault → Type 0
 FromClocks = reported_by (IsClearOf of_clocks of_inits) (ReportsFirst of_clocks of_inits) (ReportsFirst of_loops of_loops)
 
 abbrev ClearNet : CircuitTree → Type 0
-ClearNet = clear_of_both LacksNone (clear_of_both (IsClearOf of_clocks of_inits) (IsClearOf of_loops of_loops))
+ClearNet = clear_of_both (IsClearOf of_clocks of_inits) (IsClearOf of_loops of_loops)
 
 -- all of them
 abbrev ChainFault : Type 0
-ChainFault = Either TreeFault (Either Given NetFault)
+ChainFault = Either TreeFault NetFault
 
 abbrev FromTree : CircuitTree → ChainFault → Type 0
-FromTree = reported_by ClearTree FromNames (reported_by LacksNone (λ c f. ShowsLack c (told f)) FromClocks)
+FromTree = reported_by ClearTree FromNames FromClocks
 
 abbrev told_chain : ChainFault → Fault
-told_chain = told_by told_tree (told_by told (told_by told told))
+told_chain = told_by told_tree (told_by told told)
 
 module _ (c : CircuitTree) where
   tree_clear : ClearTree c → IsClearOf of_names of_drivers c
@@ -91,41 +88,16 @@ module _ (c : CircuitTree) where
   net_first : (f : NetFault) → FromClocks c f → IsFirstOf of_clocks of_loops c (told_by told told f)
   net_first = first_of_both 10 12 13 (omega arith) (omega arith) c told told (ReportsFirst of_loops of_loops) (λ b first. first)
 
+  chain_first : (f : ChainFault) → FromTree c f → IsFirstOf of_names of_loops c (told_chain f)
+  chain_first (One f) first = first_of_one 1 9 13 (omega arith) (omega arith) (circuit_meaning c) (told_tree f) (tree_first f first)
+  chain_first (Two f) h =
+      first_of_two 1 9 13 (omega arith) (omega arith) (circuit_meaning c) (told_by told told f) (tree_clear h.0) (net_first f h.1)
+
 module _ (bytes : List ℕ) (c : CircuitTree) (spelled : Spells bytes c) where
   pub takes : clear_of_both ClearTree ClearNet c → Takes bytes c
   takes h =
       let m = circuit_meaning c in
-      record {
-        spelled = spelled;
-        in_language = h.1.0;
-        faultless = clear_all c (both_clear 1 9 13 m (tree_clear c h.0) (both_clear 10 12 13 m h.1.1.0 h.1.1.1));
-      }
-
-  -- a form that is lacking is named by its token
-  lacks : (f : Fault) → ClearTree c → ShowsLack c f → Lacks bytes f
-  lacks f clear (lack, first, stands) = record {
-    circuit = c;
-    spelled = spelled;
-    clear = tree_clear c clear;
-    lack = lack;
-    first = first;
-    tokens = spelled.0;
-    of_text = spelled.1;
-    at_its_token = lack_names_its_token c lack (terminals spelled.0) first spelled.2;
-    stands = stands;
-  }
+      record { spelled = spelled; faultless = clear_all c (both_clear 1 9 13 m (tree_clear c h.0) (both_clear 10 12 13 m h.1.0 h.1.1)) }
 
   pub refused : (f : ChainFault) → FromTree c f → RefusedFor bytes (told_chain f)
-  refused (One f) first = inr (inl (record { circuit = c; spelled = spelled; first = tree_first c f first }))
-  refused (Two (One f)) h = inr (inr (inl (lacks (told f) h.0 h.1)))
-  refused (Two (Two f)) h =
-      inr
-      (inr
-      (inr
-      (record {
-        circuit = c;
-        spelled = spelled;
-        clear = tree_clear c h.0;
-        in_language = h.1.0;
-        first = net_first c f h.1.1;
-      })))
+  refused f first = inr (record { circuit = c; spelled = spelled; first = chain_first c f first })

@@ -1,5 +1,5 @@
 -- The groups of faults of passes one behind the other: which are clear where both are, and that the first fault of either pass is the first of both.
-use Rattle.std.proofs.Common.{◌≡◌, ℕ, suc, ◌+◌, ◌<◌, ◌≤◌, [], subst, arith, ⊎_elim}
+use Rattle.std.proofs.Common.{◌≡◌, ℕ, ◌+◌, ◌<◌, ◌≤◌, [], subst, arith, ⊎_elim}
 use Rattle.std.proofs.lemmas.Bool.{cases_lt}
 use Rattle.fir_ast.specs.Circuits.{CircuitTree}
 use Rattle.fir_ast.specs.Faults.{Fault}
@@ -21,10 +21,10 @@ both_clear from middle upto m first second k low high =
     ⊎_elim (λ (past : middle < k). second k (omega (arith, past)) high) (λ (within : k ≤ middle). first k low within) (cases_lt middle k)
 
 module _ (from middle upto : ℕ) (low : from ≤ middle) (high : middle ≤ upto) (m : Meaning) (f : Fault) where
-  first_of_one : IsFirst from middle m f → IsFirst from upto m f
+  pub first_of_one : IsFirst from middle m f → IsFirst from upto m f
   first_of_one first = record { low = first.low; high = omega (arith, first.high, high); told = first.told; stands = first.stands; clear = first.clear }
 
-  first_of_two : AreClear from middle m → IsFirst (middle + 1) upto m f → IsFirst from upto m f
+  pub first_of_two : AreClear from middle m → IsFirst (middle + 1) upto m f → IsFirst from upto m f
   first_of_two clear first = record {
     low = omega (arith, first.low, low);
     high = first.high;
@@ -47,18 +47,10 @@ nothing : IsClear (in_order [])
 nothing f there = absurd there
 
 module _ (c : CircuitTree) where
-  past_all : (k : ℕ) → 13 < k → IsClear ((circuit_meaning c).group k)
-  unfolding circuit_meaning
-  past_all (suc (suc (suc (suc (suc (suc (suc (suc (suc (suc (suc (suc (suc (suc k)))))))))))))) past = nothing
-  past_all k past = absurd (omega (arith, past))
-
   -- the text has no group among those of the circuit
   clear_text : IsClearOf 0 0 c
   unfolding circuit_meaning
   clear_text = one_clear 0 (circuit_meaning c) nothing
 
-  clear_upto : (last : ℕ) → IsClearOf 1 last c → (k : ℕ) → k ≤ last → IsClear ((circuit_meaning c).group k)
-  clear_upto last clear k high = both_clear 0 0 last (circuit_meaning c) clear_text clear k (omega arith) high
-
-  pub clear_all : IsClearOf 1 13 c → (k : ℕ) → IsClear ((circuit_meaning c).group k)
-  clear_all clear k = ⊎_elim (λ (past : 13 < k). past_all k past) (λ (within : k ≤ 13). clear_upto 13 clear k within) (cases_lt 13 k)
+  pub clear_all : IsClearOf 1 13 c → IsClearOf 0 13 c
+  clear_all clear = both_clear 0 0 13 (circuit_meaning c) clear_text clear

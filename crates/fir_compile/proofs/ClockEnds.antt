@@ -74,6 +74,7 @@ module _ (net : FlatNet) where
       role_ends (role.Wire r) is ticks can = cc
       role_ends (role.Register r) is ticks can = cc
       role_ends (role.Reading r) is ticks can = cc
+      role_ends (role.Pipe p) is ticks can = cc
 
     ends_before : (n : ℕ) → EndsBefore n
     ends_before zero i k within here ticking some = absurd (omega (arith, within))

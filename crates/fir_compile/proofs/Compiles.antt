@@ -1,4 +1,4 @@
--- What a circuit compiles to, by way of its net.
+-- What a circuit compiles to, by way of its net, and of that without pipes.
 use Rattle.std.proofs.Common.{◌≡◌, List, ◌∙◌, subst}
 use Rattle.fir_ast.specs.Circuits.{CircuitTree}
 use Rattle.fir_meaning.specs.Elaborated.{IsSourceOf}
@@ -13,6 +13,7 @@ use Rattle.fir_net.specs.working.Laws.{NodesHaveTheirTypes}
 use Rattle.fir_net.specs.working.One.{One as NetOne}
 use Rattle.fir_flatten.specs.SourceRows.{source_rows, source_words}
 use Rattle.fir_flatten.specs.working.FlattensTo.{FlattensTo, MeansSource}
+use Rattle.fir_mem.specs.working.Lowers.{Lowers}
 use Rattle.ver_ast.specs.declared.tree.Verilog.{Verilog}
 use Rattle.ver_ast.specs.Allows.{VAllows}
 use Rattle.ver_ast.specs.Nets.{shape as v_shape}
@@ -24,20 +25,20 @@ use Rattle.fir_compile.proofs.AllRuns.{Includes, same_once, same_runs}
 use Rattle.fir_compile.proofs.SourceRuns.{from_net, source_one, source_runs_once, to_net}
 use Rattle.fir_compile.proofs.WordBlocks.{words_have_blocks}
 
-module _ (types : NodesHaveTheirTypes) (c : CircuitTree) (net : FlatNet) (order : List Read) (flat : FlattensTo c net) (is_order : IsOrder net order) (one : NetOne net)
-    (v : Verilog) (made : Builds net v) where
+module _ (types : NodesHaveTheirTypes) (c : CircuitTree) (net : FlatNet) (flat : FlattensTo c net) (one : NetOne net) (low : FlatNet) (lowers : Lowers net low)
+    (order : List Read) (is_order : IsOrder low order) (low_one : NetOne low) (v : Verilog) (made : Builds low v) where
   module _ (t : SourceDesign) (is : IsSourceOf c t) where
     means : MeansSource t net
     means = flat.each t is
 
     shapes : v_shape v ≡ source_shape t
-    shapes = made.shapes ∙ means.shapes
+    shapes = made.shapes ∙ lowers.shapes ∙ means.shapes
 
     forth : Includes (VAllows v) (Allows t)
-    forth s k o r n x = from_net c net flat one t is s k o r n ((made.allows s k o r n).0 x)
+    forth s k o r n x = from_net c net flat one t is s k o r n ((lowers.allows s k o r n).0 ((made.allows s k o r n).0 x))
 
     back : Includes (Allows t) (VAllows v)
-    back s k o r n x = (made.allows s k o r n).1 (to_net c net flat one t is s k o r n x)
+    back s k o r n x = (made.allows s k o r n).1 ((lowers.allows s k o r n).1 (to_net c net flat one t is s k o r n x))
 
     runs_once : RunsOnce (source_shape t) (Allows t)
     runs_once = source_runs_once c net flat one t is types
@@ -50,10 +51,10 @@ module _ (types : NodesHaveTheirTypes) (c : CircuitTree) (net : FlatNet) (order 
     compiles_to : CompilesTo c.named.name t v
     compiles_to = record {
       named =
-          subst (λ arrays. IsNamedFor c.named.name (source_rows t) (source_words t) arrays v) means.arrays
-          (subst (λ words. IsNamedFor c.named.name (source_rows t) words (net_arrays net) v) means.words
-          (subst (λ rows. IsNamedFor c.named.name rows (net_words net) (net_arrays net) v) means.ports
-          (subst (λ name. IsNamedFor name (net_rows net) (net_words net) (net_arrays net) v) flat.named made.named)));
+          subst (λ arrays. IsNamedFor c.named.name (source_rows t) (source_words t) arrays v) (lowers.arrays ∙ means.arrays)
+          (subst (λ words. IsNamedFor c.named.name (source_rows t) words (net_arrays low) v) (lowers.words ∙ means.words)
+          (subst (λ rows. IsNamedFor c.named.name rows (net_words low) (net_arrays low) v) (lowers.rows ∙ means.ports)
+          (subst (λ name. IsNamedFor name (net_rows low) (net_words low) (net_arrays low) v) (lowers.name ∙ flat.named) made.named)));
       shapes = shapes;
       one = source_one c net flat one t is;
       allows = λ s k o r n. (forth s k o r n, back s k o r n);
@@ -64,7 +65,7 @@ module _ (types : NodesHaveTheirTypes) (c : CircuitTree) (net : FlatNet) (order 
   pub compiles : Compiles c v
   compiles = record {
     arranged = made.arranged;
-    with_blocks = λ t is. words_have_blocks t net (flat.each t is) flat.whole order is_order one made.arranged.with_block made.with_blocks;
+    with_blocks = λ t is. words_have_blocks t net flat.whole (flat.each t is) low lowers order is_order low_one made.arranged.with_block made.with_blocks;
     valid = made.valid;
     v_one = made.one;
     v_runs_once = v_runs_once flat.source flat.is_source;

@@ -1,6 +1,5 @@
 pub mod ChainGroups
 pub mod NetPasses
-pub mod LackTokens
 pub mod ChainFaults
 pub mod ClockEnds
 pub mod WordBlocks

@@ -1,5 +1,5 @@
 -- What a simulation of a text is made of, by way of the circuit's net.
-use Rattle.std.proofs.Common.{◌≡◌, ℕ, List, [], ◌++◌, Some, None, sym, ap, ap₂, ◌∙◌, subst, map, append-nil}
+use Rattle.std.proofs.Common.{◌≡◌, ℕ, List, [], ◌++◌, Some, None, ap₂, ◌∙◌, subst, map}
 use Rattle.fir_ast.specs.Circuits.{CircuitTree}
 use Rattle.fir_parse.specs.working.Laws.{SpellsOneTree}
 use Rattle.fir_meaning.specs.Elaborated.{IsSourceOf}
@@ -10,9 +10,7 @@ use Rattle.fir_net.specs.Rows.{ArrayRow, Row, Word, array_names, row_names, word
 use Rattle.fir_net.specs.working.Rows.{net_arrays, net_rows, net_words}
 use Rattle.fir_flatten.specs.SourceRows.{source_rows, source_words}
 use Rattle.fir_flatten.specs.working.FlattensTo.{FlattensTo, MeansSource}
-use Rattle.fir_net_names.specs.working.LeafNamed.{name_at, named_leaves, somes}
 use Rattle.ver_build.specs.working.Laws.{NamesAreForRows}
-use Rattle.ver_build.proofs.NoArrays.{no_order, no_rows}
 use Rattle.trace_text.specs.Shapes.{TraceShape, WordKind}
 use Rattle.fir_tick.specs.working.Shapes.{IsShapeOf}
 use Rattle.fir_outcome.specs.Traces.{IsShapeFor, IsTraceShape}
@@ -33,19 +31,9 @@ module _ (names : NamesAreForRows) (c : CircuitTree) (net : FlatNet) (s : TraceS
   shape_for : (t : SourceDesign) → IsSourceOf c t → IsShapeFor t s
   shape_for t is =
       let means : MeansSource t net = flat.each t is in
-      let none : net.arrays ≡ [] = flat.writable.no_arrays in
-      let leaf_names : List (List ℕ) = somes (map (name_at of_net.table.leaves) (named_leaves net)) in
-      let names_are : leaf_names ≡ of_net.ports ++ map (λ w. w.name) s.state =
-      sym (append-nil leaf_names)
-      ∙ ap (λ (ks : List ℕ). leaf_names ++ somes (map (name_at of_net.table.arrays) ks)) (sym (no_order net flat.whole none)) ∙ of_net.names in
-      let in_table : AreNamed [] (row_names (net_rows net) ++ word_names (net_words net)) (of_net.ports ++ map (λ w. w.name) s.state) =
-      subst (λ (ns : List (List ℕ)). AreNamed [] (row_names (net_rows net) ++ word_names (net_words net)) ns) names_are
-      (names net of_net.table flat.whole of_net.named) in
-      let behind : row_names (net_rows net) ++ word_names (net_words net) ≡ row_names (net_rows net) ++ word_names (net_words net) ++ array_names (net_arrays net) =
-      sym (append-nil (row_names (net_rows net) ++ word_names (net_words net)))
-      ∙ ap (λ (arrays : List ArrayRow). row_names (net_rows net) ++ word_names (net_words net) ++ array_names arrays) (sym (no_rows net flat.whole none)) in
       let with_arrays : Named (net_rows net) (net_words net) (net_arrays net) =
-      subst (λ (bases : List (List ℕ)). AreNamed [] bases (of_net.ports ++ map (λ w. w.name) s.state)) behind in_table in
+      subst (λ (ns : List (List ℕ)). AreNamed [] (row_names (net_rows net) ++ word_names (net_words net) ++ array_names (net_arrays net)) ns) of_net.names
+      (names net of_net.table flat.whole of_net.named) in
       record {
         values = of_net.values ∙ means.shapes;
         words = of_net.words ∙ ap₂ (λ (ws : List Word) (xs : List ArrayRow). map of_register ws ++ map of_array xs) means.words means.arrays;

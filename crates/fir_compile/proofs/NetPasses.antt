@@ -1,10 +1,9 @@
--- What the passes behind the nets of a circuit say of it: which form it lacks first, or none; which fault its clocks and its inits show first, or none; and which
--- loop stands in it, or none.
+-- What the passes behind the nets of a circuit say of it: which fault its clocks, those of its memories and its inits show first, or none; and which loop stands in
+-- it, or none.
 use Rattle.std.proofs.Common.{◌≡◌, List, Some, sym, ap, ◌∙◌, subst, inl, inr, arith}
 use Rattle.fir_base.specs.declared.refused.Refused.{Refused}
 use Rattle.fir_base.specs.declared.refused.Refused.TheVariants as refused
 use Rattle.fir_ast.specs.declared.fault.FirFault.{FirFault}
-use Rattle.fir_ast.specs.declared.fault.FirFault.TheVariants.{Unsupported}
 use Rattle.fir_ast.specs.working.CodeFaults.{fault_of}
 use Rattle.fir_ast.specs.working.Views.{circuit_of}
 use Rattle.fir_ast.specs.declared.circuit.Circuit.{Circuit}
@@ -14,6 +13,7 @@ use Rattle.fir_pass.specs.Groups.{group_of, IsClear}
 use Rattle.fir_pass.specs.working.Law.{IfFaulty, Passes}
 use Rattle.fir_meaning.specs.SourceClocks.{clock_group}
 use Rattle.fir_meaning.specs.SourceLoops.{loop_group}
+use Rattle.fir_meaning.specs.SourceMemoryClocks.{memory_clock_group}
 use Rattle.fir_meaning.specs.SourceMeaning.{circuit_meaning}
 use Rattle.fir_meaning.specs.working.Stages.{IsClearOf, IsFirstOf, IsTreeOf}
 use Rattle.fir_meaning.proofs.KeptTrees.{first_at}
@@ -21,30 +21,23 @@ use Rattle.fir_net.specs.declared.net.FlatNet.{FlatNet}
 use Rattle.fir_net.specs.declared.reads.Read.{Read}
 use Rattle.fir_loop.specs.working.IsLoop.{ShowsLoop}
 use Rattle.fir_loop.specs.working.Orders.{IsOrdered}
-use Rattle.fir_flatten.specs.working.FlatFaults.{ShowsNone, TellsClock, TellsFirst, TellsInit}
+use Rattle.fir_flatten.specs.working.FlatFaults.{ShowsNone, TellsClock, TellsFirst, TellsInit, TellsMemory}
 use Rattle.fir_flatten.specs.working.FlattensTo.{FlattensTo}
-use Rattle.fir_lack.specs.declared.lack.Lack.{Lack}
-use Rattle.fir_lack.specs.working.Lacks.{AreMemoriesClear, IsLack, lack_of}
-use Rattle.fir_outcome.specs.CircuitFaults.{LacksNone}
 use Rattle.fir_compile.specs.declared.compiled.Compiled.{Compiled}
-use Rattle.fir_compile.specs.working.Lacks.{ShowsLack}
 use Rattle.fir_compile.proofs.ChainGroups.{both_clear, one_clear}
 
 module _ (c : CircuitTree) where
-  pub lacks_form : (l : Lack) (f : FirFault) → IsLack c (Some l) → f ≡ Unsupported l.place l.word.now → ShowsLack c (fault_of f)
-  lacks_form l f is stands = (lack_of l, sym is, ap fault_of stands)
-
-  clocks_clear : IsClear (clock_group c) → AreMemoriesClear c → IsClearOf 10 11 c
+  clocks_clear : IsClear (clock_group c) → IsClear (memory_clock_group c) → IsClearOf 10 11 c
   unfolding circuit_meaning
   clocks_clear own memories =
       let m = circuit_meaning c in
       both_clear 10 10 11 m (one_clear 10 m own) (one_clear 11 m memories)
 
-  groups_clear : ShowsNone c → AreMemoriesClear c → IsClearOf 10 12 c
+  groups_clear : ShowsNone c → IsClearOf 10 12 c
   unfolding circuit_meaning
-  groups_clear none memories =
+  groups_clear none =
       let m = circuit_meaning c in
-      both_clear 10 11 12 m (clocks_clear none.clocks memories) (one_clear 12 m none.inits)
+      both_clear 10 11 12 m (clocks_clear none.clocks none.memories) (one_clear 12 m none.inits)
 
   clock_first : (f : Fault) → TellsClock c f → IsFirstOf 10 12 c f
   unfolding circuit_meaning
@@ -52,15 +45,22 @@ module _ (c : CircuitTree) where
       first_at 10 12 10 (circuit_meaning c) f (ap group_of is.code) (omega arith) (omega arith) is.told is.shown
       (λ k low high. absurd (omega (arith, low, high)))
 
-  init_first : AreMemoriesClear c → (f : Fault) → TellsInit c f → IsFirstOf 10 12 c f
+  memory_first : (f : Fault) → TellsMemory c f → IsFirstOf 10 12 c f
   unfolding circuit_meaning
-  init_first memories f is =
-      first_at 10 12 12 (circuit_meaning c) f (ap group_of is.code) (omega arith) (omega arith) is.shown is.shown
-      (λ k low high. clocks_clear is.clear memories k low (omega (arith, high)))
+  memory_first f is =
+      first_at 10 12 11 (circuit_meaning c) f (ap group_of is.code) (omega arith) (omega arith) is.told is.shown
+      (λ k low high. one_clear 10 (circuit_meaning c) is.clear k low (omega (arith, high)))
 
-  fault_first : AreMemoriesClear c → (f : Fault) → TellsFirst c f → IsFirstOf 10 12 c f
-  fault_first memories f (inl clock) = clock_first f clock
-  fault_first memories f (inr init) = init_first memories f init
+  init_first : (f : Fault) → TellsInit c f → IsFirstOf 10 12 c f
+  unfolding circuit_meaning
+  init_first f is =
+      first_at 10 12 12 (circuit_meaning c) f (ap group_of is.code) (omega arith) (omega arith) is.shown is.shown
+      (λ k low high. clocks_clear is.clear is.memories k low (omega (arith, high)))
+
+  fault_first : (f : Fault) → TellsFirst c f → IsFirstOf 10 12 c f
+  fault_first f (inl clock) = clock_first f clock
+  fault_first f (inr (inl memory)) = memory_first f memory
+  fault_first f (inr (inr init)) = init_first f init
 
   loops_clear : IsClear (loop_group c) → IsClearOf 13 13 c
   unfolding circuit_meaning
@@ -74,23 +74,17 @@ module _ (c : CircuitTree) where
       (λ k low high. absurd (omega (arith, low, high)))
 
 -- what each of them gives is a stage of the same circuit
-pub keeps_forms : (t n : Circuit) → n ≡ t → LacksNone (circuit_of t) → Passes IsTreeOf IsTreeOf LacksNone t n
-keeps_forms t n same lacks c is = (ap circuit_of same ∙ is, subst LacksNone is lacks)
-
-pub reports_lack : (t : Circuit) (f : Fault) → ShowsLack (circuit_of t) f → (c : CircuitTree) → IsTreeOf c t → ShowsLack c f
-reports_lack t f shown c is = subst (λ x. ShowsLack x f) is shown
-
-pub keeps_flat : (t : Circuit) (net made : FlatNet) → made ≡ net → ShowsNone (circuit_of t) → AreMemoriesClear (circuit_of t)
-    → FlattensTo (circuit_of t) net → Passes IsTreeOf FlattensTo (IsClearOf 10 12) t made
-keeps_flat t net made same none memories flat c is = (
+pub keeps_flat : (t : Circuit) (net made : FlatNet) → made ≡ net → ShowsNone (circuit_of t) → FlattensTo (circuit_of t) net
+    → Passes IsTreeOf FlattensTo (IsClearOf 10 12) t made
+keeps_flat t net made same none flat c is = (
   subst (FlattensTo c) (sym same) (subst (λ x. FlattensTo x net) is flat),
-  subst (λ x. IsClearOf 10 12 x) is (groups_clear (circuit_of t) none memories),
+  subst (λ x. IsClearOf 10 12 x) is (groups_clear (circuit_of t) none),
 )
 
-pub reports_told : (t : Circuit) → AreMemoriesClear (circuit_of t) → (r : Refused (FirFault × Circuit))
-    → IfFaulty r (λ f. TellsFirst (circuit_of t) (fault_of f.0)) → IfFaulty r (λ f. IsFirstOf 10 12 (circuit_of t) (fault_of f.0))
-reports_told t memories (refused.Fault f) told = fault_first (circuit_of t) memories (fault_of f.0) told
-reports_told t memories refused.Memory told = tt
+pub reports_told : (t : Circuit) → (r : Refused (FirFault × Circuit)) → IfFaulty r (λ f. TellsFirst (circuit_of t) (fault_of f.0))
+    → IfFaulty r (λ f. IsFirstOf 10 12 (circuit_of t) (fault_of f.0))
+reports_told t (refused.Fault f) told = fault_first (circuit_of t) (fault_of f.0) told
+reports_told t refused.Memory told = tt
 
 abbrev pub IsCompiledOf : CircuitTree → Compiled → Type 0
 IsCompiledOf c x = FlattensTo c x.net × IsOrdered x.net x.order

@@ -1,5 +1,4 @@
 -- What no clause of `run` reads: contracts between layers, laws, views of the code and its states.
 pub mod Told
-pub mod Lacks
 pub mod Readings
 pub mod Made

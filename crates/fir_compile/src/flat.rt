@@ -6,7 +6,6 @@ ghost use Rattle.fir_pass.specs.Groups.{of_clocks, of_inits};
 ghost use Rattle.fir_meaning.specs.working.Stages.{IsClearOf, IsFirstOf};
 ghost use Rattle.fir_net.specs.working.IsNet.{IsNet};
 
-use crate::supported::Supported;
 use fir_ast::FirFault;
 use fir_base::Refused;
 use fir_flatten::flatten;
@@ -70,7 +69,7 @@ impl WholeNet {
 pub struct Flatten;
 
 impl Pass for Flatten {
-    type In = Supported;
+    type In = NetCircuit;
 
     type Out = WholeNet;
 
@@ -85,9 +84,9 @@ impl Pass for Flatten {
     fn run(
         &self,
         alloc: Global,
-        x: Supported,
+        x: NetCircuit,
     ) -> Result<WholeNet, Refused<(FirFault, NetCircuit)>> {
-        match flatten(alloc, x.into_circuit()) {
+        match flatten(alloc, x) {
             Ok(net) => Ok(WholeNet::new(net)),
             Err(refused) => Err(refused),
         }

@@ -1,14 +1,12 @@
 //! From the text of a circuit to what is written of it. `passes` reads as the list of the passes: `compile` ends in
 //! the net of the circuit and an order of its leaves and nodes (`compiled`), `verilog_of` in the bytes of its Verilog,
-//! `net_of` in what a simulation runs. The last three passes and their stages stand here: that to a circuit of which
-//! no form is lacking (`supported`), to its flat net (`flat`), and to an order of that (`compiled`). What is said of
-//! them all stands in fir_outcome.
+//! `net_of` in what a simulation runs. The last two passes and their stages stand here: that to the flat net of a
+//! circuit (`flat`), and to an order of that (`compiled`). What is said of them all stands in fir_outcome.
 #![tactic(auto)]
 
 mod compiled;
 mod flat;
 mod passes;
-mod supported;
 mod told;
 
 pub use compiled::Compiled;

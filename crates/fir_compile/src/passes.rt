@@ -1,8 +1,7 @@
 //! The passes on the way of a circuit, in the order in which it takes them: from bytes to tokens and to the tree; then,
 //! in one chain, to the tree with its names, with its types, with its resets and widths, and over its ground leaves,
-//! which are not too many; to the nets of its modules, in which each leaf is driven; which has only forms that are
-//! taken so far, to one flat net and its order (`compile`); and from there to the Verilog tree and its text, or to the
-//! shape of its traces.
+//! which are not too many; to the nets of its modules, in which each leaf is driven; to one flat net and its order
+//! (`compile`); and from there to the Verilog tree and its text, by a net without pipes, or to the shape of its traces.
 
 ghost use Rattle.std.specs.Prelude.{◌≤◌, IfOk, length};
 ghost use Rattle.fir_net.specs.working.IsOrder.{IsOrder};
@@ -11,7 +10,6 @@ ghost use Rattle.fir_compile.specs.working.Readings.{IsCompiled, IsEmitted, IsTr
 
 use crate::compiled::{Compiled, FindOrder};
 use crate::flat::Flatten;
-use crate::supported::TakeForms;
 use crate::told::Told;
 use fir_ast::{Circuit, FirFault};
 use fir_base::Refused;
@@ -20,7 +18,8 @@ use fir_expand::Expand;
 use fir_infer::Infer;
 use fir_lex::laws::{faults_form_by_form, lexed_form_by_form};
 use fir_lex::lex;
-use fir_net::laws::nodes_have_their_types;
+use fir_mem::lower_pipes;
+use fir_net::laws::{nodes_have_their_types, ordered_has_one};
 use fir_parse::parse;
 use fir_pass::{Chain, Pass};
 use fir_resolve::{Parsed, Resolve};
@@ -35,8 +34,8 @@ use ver_emit::{layout_has_no_comment, layout_is_spelled, write_verilog};
 /// The passes over the tree, for the faults E08 to E24.
 type TreePasses = Chain<Resolve, Chain<CheckTypes, Chain<Infer, Chain<Expand, LowerWhens>>>>;
 
-/// Those behind its nets, for the forms that are lacking so far and the faults E25 to E28.
-type NetPasses = Chain<TakeForms, Chain<Flatten, FindOrder>>;
+/// Those behind its nets, for the faults E25 to E28.
+type NetPasses = Chain<Flatten, FindOrder>;
 
 /// Passes one behind the other.
 macro_rules! chain {
@@ -49,7 +48,7 @@ macro_rules! chain {
 fn passes() -> Chain<TreePasses, NetPasses> {
     Chain {
         first: chain!(Resolve, CheckTypes, Infer, Expand, LowerWhens),
-        second: chain!(TakeForms, Flatten, FindOrder),
+        second: chain!(Flatten, FindOrder),
     }
 }
 
@@ -69,7 +68,7 @@ fn read_tree(alloc: Global, bytes: &[u8]) -> Result<Circuit, Refused<FirFault>>
 
 /// The flat net of the circuit that the bytes spell, with its order. It allows at every tick what the circuit's source
 /// allows, with its names, and has exactly one choice of values; or else the fault for which the text is refused: of the
-/// text, else the first of its circuit up to E24, else the first form that is lacking so far, else the first behind it.
+/// text, else the first of its circuit.
 pub fn compile(alloc: Global, bytes: &[u8]) -> Result<Compiled, Refused<FirFault>>
     requires { length bytes.now ≤ 16777216 }
     ensures compiled { IsCompiled bytes.now result }
@@ -93,10 +92,12 @@ pub fn verilog_of(alloc: Global, bytes: &[u8]) -> Result<Vec<u8>, Refused<FirFau
     layout_is_spelled();
     layout_has_no_comment();
     nodes_have_their_types();
+    ordered_has_one();
     built_has_any_places();
     spelled_names_are_words();
     let compiled = compile(alloc, bytes)?;
-    let verilog = build(alloc, &compiled.net, &compiled.order)?;
+    let lowered = lower_pipes(alloc, compiled.net, compiled.order)?;
+    let verilog = build(alloc, &lowered.0, &lowered.1)?;
     Ok(write_verilog(alloc, &verilog)?)
 }
 

@@ -32,14 +32,14 @@ module _ (scenes : List Scene) (table : List LeafDeclared) (hs : List PlacedModu
   -- what is no source in the module has its role in the whole, moved
   pub copy_role : (x : ℕ) → x < length (leafed_module s.scene).leaves → (role_at (leafed_module s.scene) x ≡ source → ⊥)
       → (leaf_at table (number (numbering (leafed_module s.scene) k.first k.own) x)).role
-      ≡ moved_role (numbering (leafed_module s.scene) k.first k.own) s.array (role_at (leafed_module s.scene) x)
+      ≡ moved_role (numbering (leafed_module s.scene) k.first k.own) k.array (role_at (leafed_module s.scene) x)
   copy_role x lt none = by (nat_lt x m.port_leaves) refl
     where
-      of_port : x < m.port_leaves → (role_at m x ≡ source) ⊎ (role_at m x ≡ sink) → (leaf_at table (number n x)).role ≡ moved_role n s.array (role_at m x)
+      of_port : x < m.port_leaves → (role_at m x ≡ source) ⊎ (role_at m x ≡ sink) → (leaf_at table (number n x)).role ≡ moved_role n k.array (role_at m x)
       of_port low (inl e) = absurd (none e)
       of_port low (inr e) =
-          ap (λ y. (leaf_at table y).role) (number_port n x low) ∙ s.ports.sinks x low e ∙ sym (ap (moved_role n s.array) e)
+          ap (λ y. (leaf_at table y).role) (number_port n x low) ∙ s.ports.sinks x low e ∙ sym (ap (moved_role n k.array) e)
 
-      by : (b : Bool) → nat_lt x m.port_leaves ≡ b → (leaf_at table (number n x)).role ≡ moved_role n s.array (role_at m x)
+      by : (b : Bool) → nat_lt x m.port_leaves ≡ b → (leaf_at table (number n x)).role ≡ moved_role n k.array (role_at m x)
       by true e = let low = ltb-true x m.port_leaves e in of_port low (port_role_is s.scene x low)
       by false e = ap (λ (l : LeafDeclared). l.role) (s.placed x (ltb-false x m.port_leaves e) lt)

@@ -83,12 +83,12 @@ module _ (c : CircuitTree) (m : LeafModule) (is : Items) (t : SourceDesign) (a :
 
   pub copy_net_role : (x : ℕ) → x < length (leafed_module s.scene).leaves → (role_at (leafed_module s.scene) x ≡ over.source → ⊥)
       → net_role_at (as_module (flattened (made_of m is))) (number (numbering (leafed_module s.scene) k.first k.own) x)
-      ≡ moved_net_role (numbering (leafed_module s.scene) k.first k.own) s.array (net_role_at (leafed_module s.scene) x)
+      ≡ moved_net_role (numbering (leafed_module s.scene) k.first k.own) k.array (net_role_at (leafed_module s.scene) x)
   copy_net_role x lt none =
       let whole = as_module (flattened (made_of m is)) in
-      let role : role_at whole (number n x) ≡ moved_role n s.array (role_at w x) =
+      let role : role_at whole (number n x) ≡ moved_role n k.array (role_at w x) =
       copy_role a.scenes (flattened (made_of m is)).leaves (all_modules t) ks k s x lt none in
       ap (net_role (net_types whole) (depth_at whole (number n x)) whole.body (number n x)) role
-      ∙ role_renumbered n w refl (net_types whole) (net_types w) same_types s.array (depth_at whole (number n x)) (depth_at w x) x whole.body w.body
+      ∙ role_renumbered n w refl (net_types whole) (net_types w) same_types k.array (depth_at whole (number n x)) (depth_at w x) x whole.body w.body
       (role_at w x) none (reads x lt)
       (λ may is_register. copy_driver c m is t a ks k s x lt may (net_types whole) (net_types w) same_types is_register)

@@ -1,6 +1,6 @@
 -- Each copy of a module of a design has its leaves in the table of the whole, and all leaves behind the main module's ports are such.
-use Rattle.std.proofs.Common.{◌≡◌, ℕ, ◌+◌, ◌-◌, ◌<◌, ◌≤◌, List, [], ◌∷◌, ◌++◌, length, slice_get, Some, refl, sym, ap, ◌∙◌, subst, inl, arith, append-nil}
-use Rattle.std.proofs.lemmas.List.{length-drop}
+use Rattle.std.proofs.Common.{◌≡◌, ℕ, ◌+◌, ◌-◌, ◌<◌, ◌≤◌, List, [], ◌∷◌, ◌++◌, length, map, slice_get, Some, refl, sym, ap, ◌∙◌, subst, inl, arith, append-nil}
+use Rattle.std.proofs.lemmas.List.{length-drop, length-map}
 use Rattle.std.proofs.lemmas.Grind.{flat_map-append}
 use Rattle.fir_base.specs.Lists.{In}
 use Rattle.fir_base.proofs.Elements.{get_in}
@@ -16,13 +16,14 @@ use Rattle.fir_meaning.specs.working.DesignPaths.{instance_path}
 use Rattle.fir_meaning.specs.working.Designs.{AreItemsIn, Design, IsDesignOf, IsItemIn, Item, Items, block_of, done, drive, instance, made_of, statement_of, then, when}
 use Rattle.fir_meaning.specs.working.Elaborated.{views}
 use Rattle.fir_meaning.specs.working.FlatDesigns.{array_count, array_count_all, count, count_all, count_below, inner_leaves}
-use Rattle.fir_meaning.specs.working.FlatLeaves.{all_leaves_in, leaves_below, leaves_in, placed_leaf}
+use Rattle.fir_meaning.specs.working.FlatLeaves.{all_arrays_in, all_leaves_in, arrays_below, arrays_in, leaves_below, leaves_in, placed_array, placed_leaf}
 use Rattle.fir_meaning.specs.working.LeafBlocks.{HeldInstance}
-use Rattle.fir_meaning.specs.working.LeafModules.{LeafDeclared, LeafModule, leaf_at}
+use Rattle.fir_meaning.specs.working.LeafModules.{LeafArray, LeafDeclared, LeafModule, leaf_at}
 use Rattle.fir_meaning.specs.working.LeafedModules.{leafed_module}
 use Rattle.fir_meaning.specs.working.NameGroups.{HasNames}
 use Rattle.fir_meaning.specs.working.Numberings.{Numbering, moved_role, number, numbering}
 use Rattle.fir_leaf.specs.working.SoundDesigns.{AreWired, IsWired}
+use Rattle.fir_leaf.proofs.FlatArrays.{array_count_is, array_counts_are}
 use Rattle.fir_leaf.proofs.FlatPlaces.{At, at_left, at_right, count_is, counts_are, held_stands, inner_at, placed_at}
 use Rattle.fir_leaf.proofs.MovedTerms.{Stands, number_more, number_own}
 use Rattle.fir_design.proofs.HeldInstances.{Held, all_held_in, held_in}
@@ -37,6 +38,7 @@ pub trees_joined : (path : LeafPath) (es fs : List NamedTree) → modules_of_tre
 trees_joined path es fs = flat_map-append (λ (e : NamedTree). modules_of_design (path ++ named e.name ∷ []) e.tree) es fs
 
 module _ (circuit : CircuitTree) (names : HasNames circuit) (scenes : List Scene) (are : AreScenes circuit scenes) (table : List LeafDeclared)
+    (whole : List LeafArray)
     (given : (s : Scene) → In scenes s → (h : Held) → In (all_held_in 0 (leafed_module s).body) h → (child : Scene)
     → slice_get scenes h.own.module_number ≡ Some child → (z : ℕ) → z < (leafed_module child).port_leaves
     → IsGivenPort scenes (leafed_module s) (leafed_module child) h.own z) where
@@ -49,8 +51,8 @@ module _ (circuit : CircuitTree) (names : HasNames circuit) (scenes : List Scene
   abbrev pub BelowCopies : Design → SourceDesign → ℕ → Type 0
   BelowCopies (made_of m is) t x =
       (path : LeafPath) (k first free array : ℕ) → Stands table (numbering m first free) path k m → PortsStand scenes table m first
-      → first + m.port_leaves ≤ free → AreWired m 0 is → At table free (leaves_below path k first free array (made_of m is))
-      → HaveCopies scenes table (modules_of_design path t) free (free + count_below (made_of m is)) (copies_below x first free (made_of m is))
+      → first + m.port_leaves ≤ free → AreWired m 0 is → At table free (leaves_below path k first free array (made_of m is)) → At whole array (arrays_below path first free (made_of m is))
+      → HaveCopies scenes table whole (modules_of_design path t) free (free + count_below (made_of m is)) (copies_below x first free array (made_of m is))
 
   -- where a module's leaves stand while its statements are gone through
   record Here (s : Scene) (path : LeafPath) (n : Numbering) (k0 : ℕ) : Type 0 where
@@ -77,40 +79,44 @@ module _ (circuit : CircuitTree) (names : HasNames circuit) (scenes : List Scene
           ∙ here.placed (y.first + z) (omega (arith, own)) (omega (arith, lt, room))
 
   abbrev Part : (s : Scene) (path : LeafPath) (n : Numbering) (free long : ℕ) → List NamedTree → List Copy → List Held → Type 0
-  Part s path n free long es ks hs = PartCopies scenes table n (modules_of_trees path es) free (free + long) ks hs
+  Part s path n free long es ks hs = PartCopies scenes table whole n (modules_of_trees path es) free (free + long) ks hs
 
   mutual
     item_copies : (x : Item) (s : Scene) (path : LeafPath) (n : Numbering) (k0 k d free array : ℕ) (es : List NamedTree)
         → Here s path n k0 → n.own + length (inner_leaves (leafed_module s)) ≤ free → d ≡ k0 + k → IsItemIn (views scenes) x → IsWired (leafed_module s) k x
         → AreGiven s (held_in k (statement_of x)) → At table free (leaves_in path d (leafed_module s) n free array x)
+        → At whole array (arrays_in path (leafed_module s) n free x)
         → AreInStep (IsTreeOf scenes s) (held_in k (statement_of x)) es
-        → Part s path n free (count x) es (copies_in n free x) (held_in k (statement_of x))
-    item_copies (drive p b ps t) s path n k0 k d free array [] here low e i w given at h =
+        → Part s path n free (count x) es (copies_in n free array x) (held_in k (statement_of x))
+    item_copies (drive p b ps t) s path n k0 k d free array [] here low e i w given at arrays h =
         let none : free + 0 ≡ free = omega arith in
-        subst (λ high. PartCopies scenes table n [] free high [] []) (sym none) (no_copies scenes table n free)
-    item_copies (drive p b ps t) s path n k0 k d free array (x ∷ es) here low e i w given at h = absurd h
-    item_copies (when p t a b) s path n k0 k d free array es here low e i w given at h =
+        subst (λ high. PartCopies scenes table whole n [] free high [] []) (sym none) (no_copies scenes table whole n free)
+    item_copies (drive p b ps t) s path n k0 k d free array (x ∷ es) here low e i w given at arrays h = absurd h
+    item_copies (when p t a b) s path n k0 k d free array es here low e i w given at arrays h =
         let m = leafed_module s in
         let one = all_leaves_in path (d + 1) m n free array a in
         let two = all_leaves_in path (d + 1) m n (free + count_all a) (array + array_count_all a) b in
+        let three = all_arrays_in path m n free a in
+        let four = all_arrays_in path m n (free + count_all a) b in
         let us = all_held_in (k + 1) (block_of a) in
         let vs = all_held_in (k + 1) (block_of b) in
         let parts = step_parts (IsTreeOf scenes s) us vs es h in
         let deep : d + 1 ≡ k0 + (k + 1) = omega (arith, e) in
         let first = items_copies a s path n k0 (k + 1) (d + 1) free array parts.0 here low deep i.0 w.1 (λ q j. given q (in_left us vs q j))
-        (at_left table one two free at) parts.3 in
+        (at_left table one two free at) (at_left whole three four array arrays) parts.3 in
         let second = items_copies b s path n k0 (k + 1) (d + 1) (free + count_all a) (array + array_count_all a) parts.1 here (omega (arith, low)) deep
-        i.1 w.2 (λ q j. given q (in_right us vs q j)) (rw (counts_are path (d + 1) m n free array a) at (at_right table one two free at)) parts.4 in
+        i.1 w.2 (λ q j. given q (in_right us vs q j)) (rw (counts_are path (d + 1) m n free array a) at (at_right table one two free at))
+        (rw (array_counts_are path m n free a) at (at_right whole three four array arrays)) parts.4 in
         let far : (free + count_all a) + count_all b ≡ free + (count_all a + count_all b) = omega arith in
-        let ks = all_copies_in n free a ++ all_copies_in n (free + count_all a) b in
-        subst (λ high. PartCopies scenes table n (modules_of_trees path es) free high ks (us ++ vs)) far
-        (subst (λ hs. PartCopies scenes table n hs free ((free + count_all a) + count_all b) ks (us ++ vs))
+        let ks = all_copies_in n free array a ++ all_copies_in n (free + count_all a) (array + array_count_all a) b in
+        subst (λ high. PartCopies scenes table whole n (modules_of_trees path es) free high ks (us ++ vs)) far
+        (subst (λ hs. PartCopies scenes table whole n hs free ((free + count_all a) + count_all b) ks (us ++ vs))
         (sym (ap (modules_of_trees path) parts.2 ∙ trees_joined path parts.0 parts.1))
-        (both_copies scenes table n (modules_of_trees path parts.0) (modules_of_trees path parts.1) free (free + count_all a)
-        ((free + count_all a) + count_all b) (all_copies_in n free a) (all_copies_in n (free + count_all a) b) us vs first second))
-    item_copies (instance y d') s path n k0 k d free array [] here low e i w given at h = absurd h
-    item_copies (instance y d') s path n k0 k d free array (x ∷ z ∷ es) here low e i w given at h = absurd h.1
-    item_copies (instance y (made_of v is)) s path n k0 k d free array (x ∷ []) here low e i w given at h =
+        (both_copies scenes table whole n (modules_of_trees path parts.0) (modules_of_trees path parts.1) free (free + count_all a)
+        ((free + count_all a) + count_all b) (all_copies_in n free array a) (all_copies_in n (free + count_all a) (array + array_count_all a) b) us vs first second))
+    item_copies (instance y d') s path n k0 k d free array [] here low e i w given at arrays h = absurd h
+    item_copies (instance y d') s path n k0 k d free array (x ∷ z ∷ es) here low e i w given at arrays h = absurd h.1
+    item_copies (instance y (made_of v is)) s path n k0 k d free array (x ∷ []) here low e i w given at arrays h =
         let m = leafed_module s in
         let t : IsTreeOf scenes s (record { depth = k; own = y }) x = h.0 in
         let below = instance_path path m y in
@@ -136,53 +142,57 @@ module _ (circuit : CircuitTree) (names : HasNames circuit) (scenes : List Scene
           low,
         ) in
         let copies = design_copies (made_of v is) t.child x.tree y.module_number t.at found t.is below d (number n y.first) free array stand ports
-        apart w.1 at in
+        apart w.1 at arrays in
         let high = free + count_below (made_of v is) in
-        let named_so : HaveCopies scenes table (modules_of_design (path ++ named x.name ∷ []) x.tree) free high
-        (copies_below y.module_number (number n y.first) free (made_of v is)) =
-        subst (λ name. HaveCopies scenes table (modules_of_design (path ++ named name ∷ []) x.tree) free high
-        (copies_below y.module_number (number n y.first) free (made_of v is))) t.name copies in
-        let all : HaveCopies scenes table (modules_of_trees path (x ∷ [])) free high (copies_below y.module_number (number n y.first) free (made_of v is)) =
-        subst (λ hs. HaveCopies scenes table hs free high (copies_below y.module_number (number n y.first) free (made_of v is)))
+        let named_so : HaveCopies scenes table whole (modules_of_design (path ++ named x.name ∷ []) x.tree) free high
+        (copies_below y.module_number (number n y.first) free array (made_of v is)) =
+        subst (λ name. HaveCopies scenes table whole (modules_of_design (path ++ named name ∷ []) x.tree) free high
+        (copies_below y.module_number (number n y.first) free array (made_of v is))) t.name copies in
+        let all : HaveCopies scenes table whole (modules_of_trees path (x ∷ [])) free high (copies_below y.module_number (number n y.first) free array (made_of v is)) =
+        subst (λ hs. HaveCopies scenes table whole hs free high (copies_below y.module_number (number n y.first) free array (made_of v is)))
         (sym (append-nil (modules_of_design (path ++ named x.name ∷ []) x.tree))) named_so in
-        one_copy scenes table n (modules_of_trees path (x ∷ [])) free high
-        (record { module_number = y.module_number; first = number n y.first; own = free })
-        (all_copies_in (numbering v (number n y.first) free) (free + length (inner_leaves v)) is) (record { depth = k; own = y }) all refl refl
+        one_copy scenes table whole n (modules_of_trees path (x ∷ [])) free high
+        (record { module_number = y.module_number; first = number n y.first; own = free; array = array })
+        (all_copies_in (numbering v (number n y.first) free) (free + length (inner_leaves v)) (array + length v.arrays) is) (record { depth = k; own = y }) all refl refl
 
     items_copies : (xs : Items) (s : Scene) (path : LeafPath) (n : Numbering) (k0 k d free array : ℕ) (es : List NamedTree)
         → Here s path n k0 → n.own + length (inner_leaves (leafed_module s)) ≤ free → d ≡ k0 + k → AreItemsIn (views scenes) xs → AreWired (leafed_module s) k xs
         → AreGiven s (all_held_in k (block_of xs)) → At table free (all_leaves_in path d (leafed_module s) n free array xs)
+        → At whole array (all_arrays_in path (leafed_module s) n free xs)
         → AreInStep (IsTreeOf scenes s) (all_held_in k (block_of xs)) es
-        → Part s path n free (count_all xs) es (all_copies_in n free xs) (all_held_in k (block_of xs))
-    items_copies done s path n k0 k d free array [] here low e i w given at h =
+        → Part s path n free (count_all xs) es (all_copies_in n free array xs) (all_held_in k (block_of xs))
+    items_copies done s path n k0 k d free array [] here low e i w given at arrays h =
         let none : free + 0 ≡ free = omega arith in
-        subst (λ high. PartCopies scenes table n [] free high [] []) (sym none) (no_copies scenes table n free)
-    items_copies done s path n k0 k d free array (x ∷ es) here low e i w given at h = absurd h
-    items_copies ((then) x xs) s path n k0 k d free array es here low e i w given at h =
+        subst (λ high. PartCopies scenes table whole n [] free high [] []) (sym none) (no_copies scenes table whole n free)
+    items_copies done s path n k0 k d free array (x ∷ es) here low e i w given at arrays h = absurd h
+    items_copies ((then) x xs) s path n k0 k d free array es here low e i w given at arrays h =
         let m = leafed_module s in
         let one = leaves_in path d m n free array x in
         let two = all_leaves_in path d m n (free + count x) (array + array_count x) xs in
+        let three = arrays_in path m n free x in
+        let four = all_arrays_in path m n (free + count x) xs in
         let us = held_in k (statement_of x) in
         let vs = all_held_in k (block_of xs) in
         let parts = step_parts (IsTreeOf scenes s) us vs es h in
         let first = item_copies x s path n k0 k d free array parts.0 here low e i.0 w.0 (λ q j. given q (in_left us vs q j))
-        (at_left table one two free at) parts.3 in
+        (at_left table one two free at) (at_left whole three four array arrays) parts.3 in
         let second = items_copies xs s path n k0 k d (free + count x) (array + array_count x) parts.1 here (omega (arith, low)) e i.1 w.1
-        (λ q j. given q (in_right us vs q j)) (rw (count_is path d m n free array x) at (at_right table one two free at)) parts.4 in
+        (λ q j. given q (in_right us vs q j)) (rw (count_is path d m n free array x) at (at_right table one two free at))
+        (rw (array_count_is path m n free x) at (at_right whole three four array arrays)) parts.4 in
         let far : (free + count x) + count_all xs ≡ free + (count x + count_all xs) = omega arith in
-        let ks = copies_in n free x ++ all_copies_in n (free + count x) xs in
-        subst (λ high. PartCopies scenes table n (modules_of_trees path es) free high ks (us ++ vs)) far
-        (subst (λ hs. PartCopies scenes table n hs free ((free + count x) + count_all xs) ks (us ++ vs))
+        let ks = copies_in n free array x ++ all_copies_in n (free + count x) (array + array_count x) xs in
+        subst (λ high. PartCopies scenes table whole n (modules_of_trees path es) free high ks (us ++ vs)) far
+        (subst (λ hs. PartCopies scenes table whole n hs free ((free + count x) + count_all xs) ks (us ++ vs))
         (sym (ap (modules_of_trees path) parts.2 ∙ trees_joined path parts.0 parts.1))
-        (both_copies scenes table n (modules_of_trees path parts.0) (modules_of_trees path parts.1) free (free + count x)
-        ((free + count x) + count_all xs) (copies_in n free x) (all_copies_in n (free + count x) xs) us vs first second))
+        (both_copies scenes table whole n (modules_of_trees path parts.0) (modules_of_trees path parts.1) free (free + count x)
+        ((free + count x) + count_all xs) (copies_in n free array x) (all_copies_in n (free + count x) (array + array_count x) xs) us vs first second))
 
     pub design_copies : (d : Design) (s : Scene) (t : SourceDesign) (x : ℕ) → slice_get scenes x ≡ Some s → IsDesignOf (views scenes) (leafed_module s) d
         → IsSourceDesignOf scenes s t → BelowCopies d t x
     design_copies (made_of v is) s (source.made_of u trees) x there e h =
         subst (λ m. BelowCopies (made_of m is) (source.made_of u trees) x) (sym e.0)
         (subst (λ z. BelowCopies (made_of (leafed_module s) is) (source.made_of z trees) x) (sym h.0)
-        (λ path k first free array st ports apart w at.
+        (λ path k first free array st ports apart w at arrays.
         let m = leafed_module s in
         let n = numbering m first free in
         let own = length (inner_leaves m) in
@@ -193,16 +203,20 @@ module _ (circuit : CircuitTree) (names : HasNames circuit) (scenes : List Scene
         let rest = all_leaves_in path k m n (free + own) (array + length m.arrays) is in
         let placed : ArePlaced table path k n array m =
         λ z le lt. ap (leaf_at table) (number_own n z le) ∙ (placed_at table path k first free array m rest z at le lt).1 in
+        let these = map (placed_array path n) m.arrays in
+        let more = all_arrays_in path m n (free + own) is in
+        let many : length these ≡ length m.arrays = length-map m.arrays (placed_array path n) in
         let here : Here s path n k = record { array = array; stands = st; placed = placed } in
         let parts = items_copies is s path n k 0 k (free + own) (array + length m.arrays) (trees_in trees) here (omega arith) (omega arith) e.2 w
         (λ q j. given s among q (subst (λ b. In (all_held_in 0 b) q) body j)) (inner_at table path k first free array m is at)
+        (rw many at (at_right whole these more array arrays))
         (subst (λ b. AreInStep (IsTreeOf scenes s) (all_held_in 0 b) (trees_in trees)) (sym body) beside) in
         let far : (free + own) + count_all is ≡ free + (own + count_all is) = omega arith in
-        let ks = all_copies_in n (free + own) is in
-        let part : PartCopies scenes table n (modules_of_instances path trees) (free + own) (free + count_below (made_of m is)) ks (all_held_in 0 m.body) =
-        subst (λ b. PartCopies scenes table n (modules_of_instances path trees) (free + own) (free + count_below (made_of m is)) ks (all_held_in 0 b)) body
-        (subst (λ high. PartCopies scenes table n (modules_of_instances path trees) (free + own) high ks (all_held_in 0 (block_of is))) far
-        (subst (λ hs. PartCopies scenes table n hs (free + own) ((free + own) + count_all is) ks (all_held_in 0 (block_of is))) (modules_by_trees path trees)
+        let ks = all_copies_in n (free + own) (array + length m.arrays) is in
+        let part : PartCopies scenes table whole n (modules_of_instances path trees) (free + own) (free + count_below (made_of m is)) ks (all_held_in 0 m.body) =
+        subst (λ b. PartCopies scenes table whole n (modules_of_instances path trees) (free + own) (free + count_below (made_of m is)) ks (all_held_in 0 b)) body
+        (subst (λ high. PartCopies scenes table whole n (modules_of_instances path trees) (free + own) high ks (all_held_in 0 (block_of is))) far
+        (subst (λ hs. PartCopies scenes table whole n hs (free + own) ((free + own) + count_all is) ks (all_held_in 0 (block_of is))) (modules_by_trees path trees)
         parts)) in
-        made_copies scenes table (record { module_number = x; first = first; own = free }) (modules_of_instances path trees) (free + own)
-        (free + count_below (made_of m is)) ks s path k array part there st ports placed apart (omega (arith, counted)) (number_own n)))
+        made_copies scenes table whole (record { module_number = x; first = first; own = free; array = array }) (modules_of_instances path trees) (free + own)
+        (free + count_below (made_of m is)) ks s path k part there st ports placed (at_left whole these more array arrays) apart (omega (arith, counted)) (number_own n)))

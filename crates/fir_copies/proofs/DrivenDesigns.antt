@@ -76,9 +76,9 @@ module _ (c : CircuitTree) (m : LeafModule) (is : Items) (t : SourceDesign) (a :
       subst (λ (u : Scene). number (numbering (leafed_module u) k.first k.own) g.leaf ≡ y) same g.number_is in
       let none : role_at w g.leaf ≡ source → ⊥ = subst (λ (u : Scene). role_at (leafed_module u) g.leaf ≡ source → ⊥) same g.gives in
       let role = copy_role a.scenes table (all_modules t) (copies_of x (made_of m is)) k s g.leaf within none in
-      let sinks : is_sink (moved_role n s.array (role_at w g.leaf)) ≡ true =
+      let sinks : is_sink (moved_role n k.array (role_at w g.leaf)) ≡ true =
       ap is_sink (sym role) ∙ ap (λ z. is_sink (role_at whole z)) number_is ∙ e in
-      let is_one : role_at w g.leaf ≡ sink = sink_moved n s.array (role_at w g.leaf) none sinks in
+      let is_one : role_at w g.leaf ≡ sink = sink_moved n k.array (role_at w g.leaf) none sinks in
       let inside = covered_there w g.leaf (driven s.scene (get_in a.scenes k.module_number s.scene s.is) g.leaf within (ap is_sink is_one)) in
       let outside = copy_covers c m is t a (copies_of x (made_of m is)) k s g.leaf within (ap may_drive is_one) in
       let here : covers_all (depths table y) y (flattened (made_of m is)).body 0 ≡ true =

@@ -96,7 +96,7 @@ module _ (c : CircuitTree) (m : LeafModule) (is : Items) (t : SourceDesign) (a :
           let low : y < (leafed_module a.main).port_leaves = subst (λ (w : LeafModule). y < w.port_leaves) main_is lt in
           let none : 0 + y ≡ y = omega arith in
           inr (
-            record { module_number = x; first = 0; own = m.port_leaves },
+            record { module_number = x; first = 0; own = m.port_leaves; array = 0 },
             inl refl,
             record {
               scene = a.main;

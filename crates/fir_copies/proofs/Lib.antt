@@ -17,3 +17,5 @@ pub mod CopyRoles
 pub mod StandingCopies
 pub mod DrivenDesigns
 pub mod MovedTypes
+pub mod MovedMemories
+pub mod TypedMemories

@@ -7,7 +7,7 @@ use Rattle.fir_meaning.specs.LeafTypes.{LeafType}
 use Rattle.fir_meaning.specs.ModuleScenes.{Scene}
 use Rattle.fir_meaning.specs.working.Designs.{AreItemsIn, Design, IsDesignOf, IsItemIn, Item, Items, block_of, done, drive, instance, made_of, statement_of, then, when}
 use Rattle.fir_meaning.specs.working.Elaborated.{views}
-use Rattle.fir_meaning.specs.working.FlatDesigns.{count, count_all, flat, flat_all, flat_below, inner_leaves}
+use Rattle.fir_meaning.specs.working.FlatDesigns.{array_count, array_count_all, count, count_all, flat, flat_all, flat_below, inner_leaves}
 use Rattle.fir_meaning.specs.working.LeafBlocks.{LeafBlock, joined}
 use Rattle.fir_meaning.specs.working.LeafBlocks as over
 use Rattle.fir_meaning.specs.working.LeafedModules.{leafed_module}
@@ -44,9 +44,9 @@ module _ (scenes : List Scene) (outer : ℕ → LeafType)
   Same n m = (x : ℕ) → x < length m.leaves → outer (number n x) ≡ held_in m x
 
   mutual
-    item_typed : (i : Item) (m : LeafModule) (n : Numbering) (free : ℕ) → n.ports ≡ m.port_leaves → Same n m → IsItemIn (views scenes) i
-        → IsReading m (statement_of i) → IsTyped (held_in m) (statement_of i) → AllHold (copies_in n free i) → AreTyped outer (flat n free i)
-    item_typed (drive p b ps t) m n free ports same e r h all =
+    item_typed : (i : Item) (m : LeafModule) (n : Numbering) (free array : ℕ) → n.ports ≡ m.port_leaves → Same n m → IsItemIn (views scenes) i
+        → IsReading m (statement_of i) → IsTyped (held_in m) (statement_of i) → AllHold (copies_in n free array i) → AreTyped outer (flat n free i)
+    item_typed (drive p b ps t) m n free array ports same e r h all =
         let there = sym (leaf_moved n m ports outer (held_in m) same b ps r.0) in (
           (
             subst (MayGive outer (moved n t)) there (may_give_moved n m ports outer (held_in m) same t (held_in m b) r.2 h.0),
@@ -56,40 +56,40 @@ module _ (scenes : List Scene) (outer : ℕ → LeafType)
           ),
           tt,
         )
-    item_typed (when p c a b) m n free ports same e r h all = (
+    item_typed (when p c a b) m n free array ports same e r h all = (
       (
         typed_moved n m ports outer (held_in m) same c one_bit r.0 h.0,
-        items_typed a m n free ports same e.0 r.1 h.1 (λ k i. all k (in_left (all_copies_in n free a) (all_copies_in n (free + count_all a) b) k i)),
-        items_typed b m n (free + count_all a) ports same e.1 r.2 h.2
-            (λ k i. all k (in_right (all_copies_in n free a) (all_copies_in n (free + count_all a) b) k i)),
+        items_typed a m n free array ports same e.0 r.1 h.1 (λ k i. all k (in_left (all_copies_in n free array a) (all_copies_in n (free + count_all a) (array + array_count_all a) b) k i)),
+        items_typed b m n (free + count_all a) (array + array_count_all a) ports same e.1 r.2 h.2
+            (λ k i. all k (in_right (all_copies_in n free array a) (all_copies_in n (free + count_all a) (array + array_count_all a) b) k i)),
       ),
       tt,
     )
-    item_typed (instance i d) m n free ports same e r h all = below_typed d i.module_number (number n i.first) free e all
+    item_typed (instance i d) m n free array ports same e r h all = below_typed d i.module_number (number n i.first) free array e all
 
-    items_typed : (is : Items) (m : LeafModule) (n : Numbering) (free : ℕ) → n.ports ≡ m.port_leaves → Same n m → AreItemsIn (views scenes) is
-        → AreReading m (block_of is) → AreTyped (held_in m) (block_of is) → AllHold (all_copies_in n free is) → AreTyped outer (flat_all n free is)
-    items_typed done m n free ports same e r h all = tt
-    items_typed ((then) i is) m n free ports same e r h all =
+    items_typed : (is : Items) (m : LeafModule) (n : Numbering) (free array : ℕ) → n.ports ≡ m.port_leaves → Same n m → AreItemsIn (views scenes) is
+        → AreReading m (block_of is) → AreTyped (held_in m) (block_of is) → AllHold (all_copies_in n free array is) → AreTyped outer (flat_all n free is)
+    items_typed done m n free array ports same e r h all = tt
+    items_typed ((then) i is) m n free array ports same e r h all =
         typed_joined outer (flat n free i) (flat_all n (free + count i) is)
-        (item_typed i m n free ports same e.0 r.0 h.0 (λ k j. all k (in_left (copies_in n free i) (all_copies_in n (free + count i) is) k j)))
-        (items_typed is m n (free + count i) ports same e.1 r.1 h.1 (λ k j. all k (in_right (copies_in n free i) (all_copies_in n (free + count i) is) k j)))
+        (item_typed i m n free array ports same e.0 r.0 h.0 (λ k j. all k (in_left (copies_in n free array i) (all_copies_in n (free + count i) (array + array_count i) is) k j)))
+        (items_typed is m n (free + count i) (array + array_count i) ports same e.1 r.1 h.1 (λ k j. all k (in_right (copies_in n free array i) (all_copies_in n (free + count i) (array + array_count i) is) k j)))
 
     -- of a design of the module of a number
-    pub below_typed : (d : Design) (x first free : ℕ) → (e : IsItemIn (views scenes) (instance (record { declaration = 0; module_number = x; first = 0 }) d))
-        → ((k : Copy) → In (copies_below x first free d) k → CopyHolds scenes outer k) → AreTyped outer (flat_below first free d)
-    below_typed (made_of v is) x first free e all =
-        let own = all (record { module_number = x; first = first; own = free }) (inl refl) in
+    pub below_typed : (d : Design) (x first free array : ℕ) → (e : IsItemIn (views scenes) (instance (record { declaration = 0; module_number = x; first = 0 }) d))
+        → ((k : Copy) → In (copies_below x first free array d) k → CopyHolds scenes outer k) → AreTyped outer (flat_below first free d)
+    below_typed (made_of v is) x first free array e all =
+        let own = all (record { module_number = x; first = first; own = free; array = array }) (inl refl) in
         let m = leafed_module own.scene in
         let n = numbering m first free in
         let among = get_in scenes x own.scene own.is in
         let f : IsDesignOf (views scenes) (leafed_module own.scene) (made_of v is) =
         subst (λ u. IsDesignOf (views scenes) u (made_of v is)) (view_at scenes x own.scene own.is) e in
         let view : v ≡ leafed_module own.scene = f.0 in
-        subst (λ (u : LeafModule). ((k : Copy) → In (copies_below x first free (made_of u is)) k → CopyHolds scenes outer k)
+        subst (λ (u : LeafModule). ((k : Copy) → In (copies_below x first free array (made_of u is)) k → CopyHolds scenes outer k)
         → AreTyped outer (flat_below first free (made_of u is))) (sym view)
         (λ others.
-        items_typed is m n (free + length (inner_leaves m)) refl own.held f.2
+        items_typed is m n (free + length (inner_leaves m)) (array + length m.arrays) refl own.held f.2
         (subst (AreReading m) (sym f.1) (reading own.scene among))
         (subst (AreTyped (held_in m)) (sym f.1) (typed own.scene among)) (λ k i. others k (inr i)))
         all

@@ -110,9 +110,9 @@ module _ (c : CircuitTree) (m : LeafModule) (is : Items) (t : SourceDesign) (a :
       let among = get_in a.scenes i.copy.module_number s.scene s.is in
       let all = typed s.scene among in
       let held = copy_holds a.scenes (flattened (made_of m is)).leaves (all_modules t) (copies_of x (made_of m is)) i.copy s alike in
-      let role : role_at (as_module (flattened (made_of m is))) (number n i.leaf) ≡ moved_role n s.array (role_at w i.leaf) =
+      let role : role_at (as_module (flattened (made_of m is))) (number n i.leaf) ≡ moved_role n i.copy.array (role_at w i.leaf) =
       ap (λ (l : LeafDeclared). l.role) (s.placed i.leaf own within) in
-      let moved = role_typed n w refl outer (held_in w) held s.array (held_in w i.leaf) (role_at w i.leaf)
+      let moved = role_typed n w refl outer (held_in w) held i.copy.array (held_in w i.leaf) (role_at w i.leaf)
       (role_reads_own s.scene (fine s.scene among) i.leaf own within) (all.roles i.leaf within) in
       subst IsLeafTyped number_is (
         subst IsNarrow (sym (held i.leaf within)) (all.narrow i.leaf within),
@@ -131,7 +131,7 @@ module _ (c : CircuitTree) (m : LeafModule) (is : Items) (t : SourceDesign) (a :
   pub whole_typed : IsModuleTyped (as_module (flattened (made_of m is)))
   whole_typed = record {
     body =
-        below_typed a.scenes outer (λ s i. scene_reading s (fine s i)) (λ s i. (typed s i).body) (made_of m is) x 0 m.port_leaves
+        below_typed a.scenes outer (λ s i. scene_reading s (fine s i)) (λ s i. (typed s i).body) (made_of m is) x 0 m.port_leaves 0
         (subst (λ (u : LeafModule). IsDesignOf (views a.scenes) u (made_of m is)) (sym (view_at a.scenes x a.main at)) a.design.is) holds;
     narrow = λ y lt. (each_typed y lt).0;
     roles = λ y lt. (each_typed y lt).1;

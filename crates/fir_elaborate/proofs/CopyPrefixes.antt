@@ -1,5 +1,5 @@
--- What stands before the paths of the leaves of an instance, by what does in the module that holds it.
-use Rattle.std.proofs.Common.{◌≡◌, ℕ, ◌<◌, List, [], ◌∷◌, ◌++◌, codes, flat_map, get_or, length, map, sym, ap, ◌∙◌, append_assoc, append-nil}
+-- What stands before the paths of the leaves and arrays of an instance, by what does in the module that holds it; and these paths as they are printed.
+use Rattle.std.proofs.Common.{◌≡◌, ℕ, ◌<◌, List, [], ◌∷◌, ◌++◌, codes, flat_map, get_or, length, map, refl, sym, ap, ◌∙◌, append_assoc, append-nil}
 use Rattle.std.proofs.lemmas.List.{get_or-map}
 use Rattle.std.proofs.lemmas.List.Concat.{flat_map-append}
 use Rattle.fir_ast.specs.Statements.{PlacedName}
@@ -36,3 +36,20 @@ prefix_below path m i names same lt =
     ap (λ ns. prefix_text path ++ (get_or ns i.declaration [] ++ codes ".")) same
     ∙ ap (λ name. prefix_text path ++ (name ++ codes ".")) (get_or-map (λ (n : PlacedName). n.name) m.declared i.declaration no_name [] lt)
     ∙ sym (prefix_then path (instance_name m i))
+
+-- a path behind another as it is printed
+joined_text : (y steps dot x more : List ℕ) → y ++ (steps ++ ((dot ++ x) ++ more)) ≡ ((y ++ steps) ++ dot) ++ (x ++ more)
+joined_text y steps dot x more = simp append_assoc refl
+
+steps_joined : (steps : LeafPath) (x : List ℕ) (more : LeafPath)
+    → flat_map step_text (steps ++ named x ∷ more) ≡ flat_map step_text steps ++ ((codes "." ++ x) ++ flat_map step_text more)
+steps_joined steps x more = flat_map-append step_text steps (named x ∷ more)
+
+pub text_then : (path : LeafPath) (x : List ℕ) (more : LeafPath)
+    → path_text (path ++ named x ∷ more) ≡ prefix_text path ++ path_text (named x ∷ more)
+text_then [] x more = refl
+text_then (named y ∷ steps) x more =
+    ap (λ xs. y ++ xs) (steps_joined steps x more) ∙ joined_text y (flat_map step_text steps) (codes ".") x (flat_map step_text more)
+text_then (element i ∷ steps) x more =
+    ap (λ xs. step_text (element i) ++ xs) (steps_joined steps x more)
+    ∙ joined_text (step_text (element i)) (flat_map step_text steps) (codes ".") x (flat_map step_text more)

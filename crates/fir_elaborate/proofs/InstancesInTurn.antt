@@ -1,4 +1,4 @@
--- The instances of a module stand in the order of its declarations, each placed by its own.
+-- The instances of a module stand in the order of its declarations, each placed by its own, and none of them has an array.
 use Rattle.std.proofs.Common.{◌≡◌, ℕ, suc, ◌+◌, ◌<◌, ◌≤◌, List, [], ◌∷◌, ◌++◌, map, length, Option, Some, None, refl, sym, ap, ◌∙◌, subst, append_assoc, append-nil, arith, length-append, inl, inr, ⊎_elim}
 use Rattle.std.proofs.lemmas.List.{map-append}
 use Rattle.fir_base.specs.Lists.{In}
@@ -18,10 +18,11 @@ use Rattle.fir_meaning.specs.working.LeafBlocks as over
 use Rattle.fir_meaning.specs.working.LeafBlocks.{HeldInstance, LeafBlock, LeafStatement, joined}
 use Rattle.fir_meaning.specs.working.Leafed.{target_of}
 use Rattle.fir_meaning.specs.working.LeafedBlocks.{instance_block, leafed, leafed_all, sides}
-use Rattle.fir_meaning.specs.working.LeafedModules.{driven_leaves, instance_place, instance_role, leafed_module, leaves_in, leaves_in_block, leaves_of_ports, module_leaves}
-use Rattle.fir_meaning.specs.working.LeafModules.{LeafDeclared}
+use Rattle.fir_meaning.specs.working.LeafedModules.{arrays_in, arrays_in_block, driven_leaves, instance_place, instance_role, leafed_module, leaves_in, leaves_in_block, leaves_of_ports, module_leaves}
+use Rattle.fir_meaning.specs.working.LeafModules.{LeafArray, LeafDeclared}
 use Rattle.fir_meaning.specs.working.LeafPairs.{leaf_pairs, partial_leaf_pairs}
 use Rattle.fir_meaning.specs.working.Targets.{leaves_so_far}
+use Rattle.fir_design.proofs.ArrayRuns.{array_declaration, block_run as array_block_run, statement_run as array_statement_run}
 use Rattle.fir_design.proofs.CountedBlocks.{block_counted, statement_counted}
 use Rattle.fir_design.proofs.DeclaredRuns.{IsRun, StandsAlone, alone_first, alone_second}
 use Rattle.fir_design.proofs.DrivingBlocks.{invalid_none, pairs_none}
@@ -54,9 +55,10 @@ mutual
 none_held : (b : LeafBlock) → all_held_in 0 b ≡ [] → instances_of b ≡ []
 none_held b e = sym (own_of 0 b) ∙ ap (map (λ (h : Held). h.own)) e
 
--- these are placed among the leaves, and declared in turn from one declaration on and before another
-pub record AreInTurn (leaves : List LeafDeclared) (from upto : ℕ) (is : List HeldInstance) : Type 0 where
+-- these are placed among the leaves, have no array, and are declared in turn from one declaration on and before another
+pub record AreInTurn (leaves : List LeafDeclared) (arrays : List LeafArray) (from upto : ℕ) (is : List HeldInstance) : Type 0 where
   pub each : (i : HeldInstance) → In is i → IsPlacedIn leaves i
+  pub apart : (i : HeldInstance) → In is i → (a : LeafArray) → In arrays a → a.declaration ≡ i.declaration → ⊥
   pub high : (i : HeldInstance) → In is i → i.declaration < upto
   pub turn : AreDeclaredBehind from is
 
@@ -71,26 +73,32 @@ behind_joined from between (i ∷ is) js le below h k =
     let lt = below i (inl refl) in
     (h.0, behind_joined (suc i.declaration) between is js (omega (arith, lt)) (λ j m. below j (inr m)) h.1 k)
 
-module _ (leaves : List LeafDeclared) where
-  none_in_turn : (from upto : ℕ) (is : List HeldInstance) → is ≡ [] → AreInTurn leaves from upto is
-  none_in_turn from upto is e = rw e (record { each = λ i m. absurd m; high = λ i m. absurd m; turn = tt })
+module _ (leaves : List LeafDeclared) (arrays : List LeafArray) where
+  none_in_turn : (from upto : ℕ) (is : List HeldInstance) → is ≡ [] → AreInTurn leaves arrays from upto is
+  none_in_turn from upto is e = rw e (record { each = λ i m. absurd m; apart = λ i m. absurd m; high = λ i m. absurd m; turn = tt })
 
   one_in_turn : (from upto : ℕ) (i : HeldInstance) → from < upto → i.declaration ≡ from → IsPlacedIn leaves i
-      → AreInTurn leaves from upto (i ∷ [])
-  one_in_turn from upto i later e placed = record {
+      → ((a : LeafArray) → In arrays a → a.declaration ≡ from → ⊥) → AreInTurn leaves arrays from upto (i ∷ [])
+  one_in_turn from upto i later e placed others = record {
     each = λ j m. ⊎_elim (λ (s : i ≡ j). subst (IsPlacedIn leaves) s placed) (λ (n : ⊥). absurd n) m;
+    apart = λ j m a among same.
+        ⊎_elim (λ (s : i ≡ j). others a among (same ∙ sym (ap (λ (x : HeldInstance). x.declaration) s) ∙ e)) (λ (n : ⊥). n) m;
     high = λ j m.
         ⊎_elim (λ (s : i ≡ j). let same = ap (λ (x : HeldInstance). x.declaration) s in omega (arith, e, same, later)) (λ (n : ⊥). absurd n) m;
     turn = (omega (arith, e), tt);
   }
 
-  both_in_turn : (from between upto : ℕ) (is js : List HeldInstance) → from ≤ between → between ≤ upto → AreInTurn leaves from between is
-      → AreInTurn leaves between upto js → AreInTurn leaves from upto (is ++ js)
+  both_in_turn : (from between upto : ℕ) (is js : List HeldInstance) → from ≤ between → between ≤ upto → AreInTurn leaves arrays from between is
+      → AreInTurn leaves arrays between upto js → AreInTurn leaves arrays from upto (is ++ js)
   both_in_turn from between upto is js low high a b = record {
     each = λ i m. ⊎_elim (λ (l : In is i). a.each i l) (λ (r : In js i). b.each i r) (in_either is js i m);
+    apart = λ i m. ⊎_elim (λ (l : In is i). a.apart i l) (λ (r : In js i). b.apart i r) (in_either is js i m);
     high = λ i m. ⊎_elim (λ (l : In is i). let lt = a.high i l in omega (arith, lt, high)) (λ (r : In js i). b.high i r) (in_either is js i m);
     turn = behind_joined from between is js low a.high a.turn b.turn;
   }
+
+abbrev pub arrays_of : Scene → List LeafArray
+arrays_of s = arrays_in_block s (behind_all_ports s.own.inside) s.own.inside.body
 
 module _ (s : Scene) (none : s.own.start.scope ≡ []) where
   -- the leaves of a part stand behind as many as are declared before it, and no others are of its declarations
@@ -98,11 +106,24 @@ module _ (s : Scene) (none : s.own.start.scope ≡ []) where
   Stand before after ls =
       StandsAlone declaration_of (module_leaves s) (length before.declared) (length after.declared) (leaves_so_far (scope_before s before)) ls
 
+  -- no others of its arrays are of its declarations
+  abbrev ArraysStand : Before → Before → List LeafArray → Type 0
+  ArraysStand before after xs =
+      (b : ℕ) × StandsAlone array_declaration (arrays_of s) (length before.declared) (length after.declared) b xs
+
+  -- what has no array is of no array's declaration
+  none_alone : (from upto b : ℕ) → from < upto → StandsAlone array_declaration (arrays_of s) from upto b [] → (a : LeafArray) → In (arrays_of s) a
+      → a.declaration ≡ from → ⊥
+  none_alone from upto b later h a among e =
+      ⊎_elim (λ (l : In h.front a). let below = h.low a l in absurd (omega (arith, below, e)))
+      (λ (r : In h.after a). let above = h.high a r in absurd (omega (arith, above, e, later)))
+      (in_either h.front h.after a (subst (λ xs. In xs a) h.is among))
+
   instance_in_turn : (p : Place) (n : PlacedName) (other : PlacedName) (before : Before)
       → Stand before (behind before (instance p n other)) (leaves_in s before (instance p n other))
-      → AreInTurn (module_leaves s) (length before.declared) (length (behind before (instance p n other)).declared)
+      → ArraysStand before (behind before (instance p n other)) [] → AreInTurn (module_leaves s) (arrays_of s) (length before.declared) (length (behind before (instance p n other)).declared)
       (instances_of (leafed s.own.modules (driven_leaves s) before (instance p n other)))
-  instance_in_turn p n other before alone = by (numbered_module 0 s.own.modules other.name)
+  instance_in_turn p n other before alone arrays = by (numbered_module 0 s.own.modules other.name)
     where
       c : Component
       c = component.instance other.name
@@ -114,18 +135,19 @@ module _ (s : Scene) (none : s.own.start.scope ≡ []) where
       later = omega (arith, length-append before.declared (declaration_at before n c ∷ []))
 
       by : (o : Option (ℕ × ModuleTree))
-          → AreInTurn (module_leaves s) (length before.declared) (length (with_declaration before n c).declared)
+          → AreInTurn (module_leaves s) (arrays_of s) (length before.declared) (length (with_declaration before n c).declared)
           (instances_of (instance_block (scope_before s before) o))
-      by None = none_in_turn (module_leaves s) (length before.declared) (length (with_declaration before n c).declared) [] refl
+      by None = none_in_turn (module_leaves s) (arrays_of s) (length before.declared) (length (with_declaration before n c).declared) [] refl
       by (Some child) =
           let scope = scope_before s before in
           let i : HeldInstance = record { declaration = length scope; module_number = child.0; first = leaves_so_far scope } in
           let place = instance_place n (numbered_module 0 s.own.modules other.name) in
           let is : length scope ≡ length before.declared = known_long s.own.modules before.declared in
-          one_in_turn (module_leaves s) (length before.declared) (length (with_declaration before n c).declared) i later is
+          one_in_turn (module_leaves s) (arrays_of s) (length before.declared) (length (with_declaration before n c).declared) i later is
           (instance_placed (module_leaves s) (length before.declared) (length (with_declaration before n c).declared) (leaves_so_far scope)
           (leaves_in s before (instance p n other)) later alone i is refl (one_declares s before n c place instance_role)
           (instance_shows d place 0 (leaves_of_data (type_of_declared s d)) (held_by_declared s d)))
+          (none_alone (length before.declared) (length (with_declaration before n c).declared) arrays.0 later arrays.1)
 
   -- a part behind another
   second_stands : (before next after : Before) (ls ms : List LeafDeclared) → length before.declared ≤ length next.declared
@@ -145,20 +167,36 @@ module _ (s : Scene) (none : s.own.start.scope ≡ []) where
       alone_first declaration_of (module_leaves s) (length before.declared) (length next.declared) (length after.declared)
       (leaves_so_far (scope_before s before)) ls ms le alone run
 
+  second_arrays : (before next after : Before) (xs ys : List LeafArray) → length before.declared ≤ length next.declared
+      → IsRun array_declaration (length before.declared) (length next.declared) xs
+      → ArraysStand before after (xs ++ ys) → ArraysStand next after ys
+  second_arrays before next after xs ys le run alone = (
+    alone.0 + length xs,
+    alone_second array_declaration (arrays_of s) (length before.declared) (length next.declared) (length after.declared) alone.0 xs ys le alone.1 run,
+  )
+
+  first_arrays : (before next after : Before) (xs ys : List LeafArray) → length next.declared ≤ length after.declared
+      → IsRun array_declaration (length next.declared) (length after.declared) ys
+      → ArraysStand before after (xs ++ ys) → ArraysStand before next xs
+  first_arrays before next after xs ys le run alone = (
+    alone.0,
+    alone_first array_declaration (arrays_of s) (length before.declared) (length next.declared) (length after.declared) alone.0 xs ys le alone.1 run,
+  )
+
   -- a statement that holds no instance
   drives_only : (before : Before) (x : Statement) → all_held_in 0 (leafed s.own.modules (driven_leaves s) before x) ≡ []
-      → AreInTurn (module_leaves s) (length before.declared) (length (behind before x).declared)
+      → AreInTurn (module_leaves s) (arrays_of s) (length before.declared) (length (behind before x).declared)
       (instances_of (leafed s.own.modules (driven_leaves s) before x))
   drives_only before x e =
       let b = leafed s.own.modules (driven_leaves s) before x in
-      none_in_turn (module_leaves s) (length before.declared) (length (behind before x).declared) (instances_of b) (none_held b e)
+      none_in_turn (module_leaves s) (arrays_of s) (length before.declared) (length (behind before x).declared) (instances_of b) (none_held b e)
 
   mutual
-    statement_in_turn : (x : Statement) (before : Before) → Stand before (behind before x) (leaves_in s before x)
-        → AreInTurn (module_leaves s) (length before.declared) (length (behind before x).declared)
+    statement_in_turn : (x : Statement) (before : Before) → Stand before (behind before x) (leaves_in s before x) → ArraysStand before (behind before x) (arrays_in s before x)
+        → AreInTurn (module_leaves s) (arrays_of s) (length before.declared) (length (behind before x).declared)
         (instances_of (leafed s.own.modules (driven_leaves s) before x))
-    statement_in_turn (instance p n other) before alone = instance_in_turn p n other before alone
-    statement_in_turn (when p c a b) before alone =
+    statement_in_turn (instance p n other) before alone arrays = instance_in_turn p n other before alone arrays
+    statement_in_turn (when p c a b) before alone arrays =
         let first = opened before in
         let inside = behind_block first a in
         let second = reopened before inside in
@@ -167,49 +205,58 @@ module _ (s : Scene) (none : s.own.start.scope ≡ []) where
         let other = instances_of (leafed_all s.own.modules (driven_leaves s) second b) in
         let ls = leaves_in_block s first a in
         let ms = leaves_in_block s second b in
-        subst (AreInTurn (module_leaves s) (length before.declared) (length after.declared)) (sym (append-nil (one ++ other)))
-        (both_in_turn (module_leaves s) (length before.declared) (length inside.declared) (length after.declared) one other
+        let xs = arrays_in_block s first a in
+        let ys = arrays_in_block s second b in
+        subst (AreInTurn (module_leaves s) (arrays_of s) (length before.declared) (length after.declared)) (sym (append-nil (one ++ other)))
+        (both_in_turn (module_leaves s) (arrays_of s) (length before.declared) (length inside.declared) (length after.declared) one other
         (longer_block first a) (longer_block second b)
-        (block_in_turn a first (first_stands first inside after ls ms (longer_block second b) (block_run s b second) alone))
+        (block_in_turn a first (first_stands first inside after ls ms (longer_block second b) (block_run s b second) alone)
+        (first_arrays first inside after xs ys (longer_block second b) (array_block_run s b second) arrays))
         (block_in_turn b second
-        (second_stands first second after ls ms (longer_block first a) (block_counted s none a first).leaves (block_run s a first) alone)))
-    statement_in_turn (connect p d e) before alone =
+        (second_stands first second after ls ms (longer_block first a) (block_counted s none a first).leaves (block_run s a first) alone)
+        (second_arrays first second after xs ys (longer_block first a) (array_block_run s a first) arrays)))
+    statement_in_turn (connect p d e) before alone arrays =
         let scope = scope_before s before in
         drives_only before (connect p d e)
         (pairs_none 0 p (sides scope d e) (leaf_pairs (target_of scope d).data_type (type_where (expression_type scope e).has)))
-    statement_in_turn (partial_connect p d e) before alone =
+    statement_in_turn (partial_connect p d e) before alone arrays =
         let scope = scope_before s before in
         drives_only before (partial_connect p d e)
         (pairs_none 0 p (sides scope d e) (partial_leaf_pairs (target_of scope d).data_type (type_where (expression_type scope e).has)))
-    statement_in_turn (invalid p d) before alone =
+    statement_in_turn (invalid p d) before alone arrays =
         let r = target_of (scope_before s before) d in
         drives_only before (invalid p d) (invalid_none (driven_leaves s) 0 p r 0 (leaf_count r.data_type))
-    statement_in_turn (wire p n begins t) before alone = none_in_turn (module_leaves s) (length before.declared) _ [] refl
-    statement_in_turn (register p n begins t c r) before alone = none_in_turn (module_leaves s) (length before.declared) _ [] refl
-    statement_in_turn (node p n e) before alone = none_in_turn (module_leaves s) (length before.declared) _ [] refl
-    statement_in_turn (memory p n parts) before alone = none_in_turn (module_leaves s) (length before.declared) _ [] refl
-    statement_in_turn (skip p) before alone = none_in_turn (module_leaves s) (length before.declared) _ [] refl
+    statement_in_turn (wire p n begins t) before alone arrays = none_in_turn (module_leaves s) (arrays_of s) (length before.declared) _ [] refl
+    statement_in_turn (register p n begins t c r) before alone arrays = none_in_turn (module_leaves s) (arrays_of s) (length before.declared) _ [] refl
+    statement_in_turn (node p n e) before alone arrays = none_in_turn (module_leaves s) (arrays_of s) (length before.declared) _ [] refl
+    statement_in_turn (memory p n parts) before alone arrays = none_in_turn (module_leaves s) (arrays_of s) (length before.declared) _ [] refl
+    statement_in_turn (skip p) before alone arrays = none_in_turn (module_leaves s) (arrays_of s) (length before.declared) _ [] refl
 
     block_in_turn : (b : Block) (before : Before) → Stand before (behind_block before b) (leaves_in_block s before b)
-        → AreInTurn (module_leaves s) (length before.declared) (length (behind_block before b).declared)
+        → ArraysStand before (behind_block before b) (arrays_in_block s before b)
+        → AreInTurn (module_leaves s) (arrays_of s) (length before.declared) (length (behind_block before b).declared)
         (instances_of (leafed_all s.own.modules (driven_leaves s) before b))
-    block_in_turn done before alone = none_in_turn (module_leaves s) (length before.declared) _ [] refl
-    block_in_turn ((then) x b) before alone =
+    block_in_turn done before alone arrays = none_in_turn (module_leaves s) (arrays_of s) (length before.declared) _ [] refl
+    block_in_turn ((then) x b) before alone arrays =
         let next = behind before x in
         let after = behind_block next b in
         let one = leafed s.own.modules (driven_leaves s) before x in
         let other = leafed_all s.own.modules (driven_leaves s) next b in
         let ls = leaves_in s before x in
         let ms = leaves_in_block s next b in
-        subst (AreInTurn (module_leaves s) (length before.declared) (length after.declared)) (sym (instances_joined one other))
-        (both_in_turn (module_leaves s) (length before.declared) (length next.declared) (length after.declared) (instances_of one)
+        let xs = arrays_in s before x in
+        let ys = arrays_in_block s next b in
+        subst (AreInTurn (module_leaves s) (arrays_of s) (length before.declared) (length after.declared)) (sym (instances_joined one other))
+        (both_in_turn (module_leaves s) (arrays_of s) (length before.declared) (length next.declared) (length after.declared) (instances_of one)
         (instances_of other) (longer_statement before x) (longer_block next b)
-        (statement_in_turn x before (first_stands before next after ls ms (longer_block next b) (block_run s b next) alone))
+        (statement_in_turn x before (first_stands before next after ls ms (longer_block next b) (block_run s b next) alone)
+        (first_arrays before next after xs ys (longer_block next b) (array_block_run s b next) arrays))
         (block_in_turn b next
-        (second_stands before next after ls ms (longer_statement before x) (statement_counted s none x before).leaves (statement_run s x before) alone)))
+        (second_stands before next after ls ms (longer_statement before x) (statement_counted s none x before).leaves (statement_run s x before) alone)
+        (second_arrays before next after xs ys (longer_statement before x) (array_statement_run s x before) arrays)))
 
   -- all of the module
-  pub instances_in_turn : AreInTurn (module_leaves s) (length (behind_all_ports s.own.inside).declared) (length (declarations s.own.inside))
+  pub instances_in_turn : AreInTurn (module_leaves s) (arrays_of s) (length (behind_all_ports s.own.inside).declared) (length (declarations s.own.inside))
       (instances_of (leafed_module s).body)
   instances_in_turn =
       let head = behind_all_ports s.own.inside in
@@ -223,4 +270,7 @@ module _ (s : Scene) (none : s.own.start.scope ≡ []) where
         long = sym (port_far s);
         low = (ports_run s s.own.inside.ports at_head).high;
         high = λ x j. absurd j;
-      })
+      }) (
+        0,
+        record { front = []; after = []; is = sym (append-nil (arrays_of s)); long = refl; low = λ a j. absurd j; high = λ a j. absurd j },
+      )

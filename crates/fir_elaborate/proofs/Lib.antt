@@ -8,6 +8,7 @@ pub mod ChosenRanges
 pub mod CopyWords
 pub mod StackedParts
 pub mod OwnRanges
+pub mod FirstArrays
 pub mod CopyPrefixes
 pub mod ViewedLeaves
 pub mod OwnInstances
@@ -15,3 +16,5 @@ pub mod InstanceWords
 pub mod ComingParts
 pub mod EnteredCopies
 pub mod WalkSteps
+pub mod NamedArrays
+pub mod CopyArrays

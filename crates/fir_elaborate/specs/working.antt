@@ -2,5 +2,6 @@
 pub mod OrderedModules
 pub mod CopyPaths
 pub mod Elaborations
+pub mod CopyArrays
 pub mod Walks
 pub mod Laws

@@ -1,12 +1,12 @@
-//! Where the leaves of a copy stand in the whole.
+//! Where the leaves and the arrays of a copy stand in the whole.
 
-ghost use Rattle.std.specs.Prelude.{◌≡◌, IfOk};
+ghost use Rattle.std.specs.Prelude.{◌≡◌, ◌+◌, IfOk};
 ghost use Rattle.fir_meaning.specs.working.Numberings.{number};
 ghost use Rattle.fir_elaborate.specs.working.Walks.{numbering_of};
 
 use fir_base::MemoryOut;
 
-/// The numbers of the leaves of a copy.
+/// The numbers of the leaves and of the arrays of a copy.
 #[derive(Clone, Copy)]
 pub struct Numbers {
     pub module_number: usize,
@@ -16,6 +16,17 @@ pub struct Numbers {
     pub first: usize,
     /// The number that the first of its other leaves has.
     pub own: usize,
+    /// The number that the first of its arrays has.
+    pub array: usize,
+}
+
+/// Some of the leaves and of the arrays of a module: each from one on and before another.
+#[derive(Clone, Copy)]
+pub struct Stretch {
+    pub from: usize,
+    pub upto: usize,
+    pub arrays_from: usize,
+    pub arrays_upto: usize,
 }
 
 impl Numbers {
@@ -28,5 +39,12 @@ impl Numbers {
         } else {
             self.own.checked_add(leaf - self.ports).ok_or(MemoryOut)
         }
+    }
+
+    /// The number that an array of the module has in the whole.
+    pub fn array_number(self, array: usize) -> Result<usize, MemoryOut>
+        ensures { IfOk result (λ y. y ≡ self.array + array) }
+    {
+        self.array.checked_add(array).ok_or(MemoryOut)
     }
 }

@@ -3,17 +3,18 @@
 ghost use Rattle.std.specs.Prelude.{◌≡◌, ℕ, ◌+◌, ◌-◌, ◌<◌, ◌++◌, codes, IfOk, List, OnOk, length, map, reverse};
 ghost use Rattle.fir_meaning.specs.working.Designs.{Design, IsDesignOf, module_of};
 ghost use Rattle.fir_meaning.specs.working.LeafModules.{LeafModule as Viewed};
+ghost use Rattle.fir_leaf_circuit.specs.declared.array.LeafArray.{LeafArray as ArrayOfCode};
 ghost use Rattle.fir_elaborate.specs.declared.walk.Pending.TheVariants as pending;
 ghost use Rattle.fir_elaborate.specs.working.Elaborations.{AreViewed, IsElaborated};
 ghost use Rattle.fir_elaborate.specs.working.Walks.{AreHeld, IsUnderWay, Takes, module_part, parts};
 
 use crate::elaborated::{Elaborated, ModuleCopy};
 use crate::instances::instances_of_all;
-use crate::numbers::Numbers;
-use crate::words::push_words;
+use crate::numbers::{Numbers, Stretch};
+use crate::words::{arrays_before, push_arrays, push_words};
 use fir_base::{MemoryOut, Name};
 use fir_leaf::LeafInstance;
-use fir_leaf_circuit::LeafModule;
+use fir_leaf_circuit::{LeafArray, LeafModule};
 use std::alloc::Global;
 
 /// More steps than the walk through a circuit within the limit of costs takes: each module of the design takes three,
@@ -26,22 +27,24 @@ enum Pending {
     /// The module of that number, whose ports have the leaves from a number on, behind what stands before the paths of
     /// its leaves.
     Module(usize, usize, Name),
-    /// The words among the leaves of a copy, from one of its module on and before another.
-    Words(Numbers, usize, usize),
+    /// The words among some leaves of a copy, and some of its arrays.
+    Words(Numbers, Stretch),
 }
 
-/// How far the walk has come: what is found, what is still to come, the next of it last, and the first number that no
-/// leaf has yet.
+/// How far the walk has come: what is found, what is still to come, the next of it last, and the first numbers that no
+/// leaf and no array has yet.
 #[derive(Drop)]
 struct Walk {
     found: Elaborated,
     pending: Vec<Pending>,
     free: usize,
+    free_array: usize,
 }
 
 /// The modules of the design below the main module, which has that number, where each module declares these names; and
-/// the words of the design's state in their order (FIRRTL spec, "Instances", "Registers"). It takes no recursion, and
-/// time in proportion to the leaves of the design and the bytes of the paths of its instances.
+/// the words and the arrays of the design's state in their order (FIRRTL spec, "Instances", "Registers", "Memories"). It
+/// takes no recursion, and time in proportion to the leaves and the arrays of the design and the bytes of the paths of
+/// its instances.
 pub fn elaborate(
     alloc: Global,
     modules: &[LeafModule],
@@ -73,9 +76,11 @@ impl Walk {
             found: Elaborated {
                 copies: Vec::new(alloc),
                 state: Vec::new(alloc),
+                array_order: Vec::new(alloc),
             },
             pending,
             free: module.port_leaves,
+            free_array: 0,
         })
     }
 
@@ -95,7 +100,7 @@ impl Walk {
             Pending::Module(number, first, prefix) => {
                 self.enter(alloc, modules, held, names, number, first, prefix)
             }
-            Pending::Words(at, from, upto) => self.put_words(modules, at, from, upto),
+            Pending::Words(at, some) => self.put_words(modules, at, some),
         }
     }
 
@@ -117,17 +122,21 @@ impl Walk {
         let instances = held.get(number).ok_or(MemoryOut)?;
         let declared = names.get(number).ok_or(MemoryOut)?;
         let own = self.free;
+        let array = self.free_array;
         let at = Numbers {
             module_number: number,
             ports: module.port_leaves,
             first,
             own,
+            array,
         };
         let free = behind_inner(own, module)?;
+        let free_array = behind_arrays(array, module)?;
         push_parts(
             alloc,
             at,
             module.leaves.len(),
+            &module.arrays,
             declared,
             &prefix,
             instances,
@@ -137,24 +146,38 @@ impl Walk {
             module_number: number,
             first,
             own,
+            array,
             prefix,
         })?;
         self.free = free;
+        self.free_array = free_array;
         Ok(())
     }
 
-    /// Finds the words among the leaves of a copy, from one of its module on and before another.
+    /// Finds the words among some leaves of a copy, and some of its arrays.
     fn put_words(
         &mut self,
         modules: &[LeafModule],
         at: Numbers,
-        from: usize,
-        upto: usize,
+        some: Stretch,
     ) -> Result<(), MemoryOut>
-        ensures { OnOk result ((names : List (List (List ℕ))) → Takes modules.now names (pending.Words at from upto) self.old self.new) }
+        ensures { OnOk result ((names : List (List (List ℕ))) → Takes modules.now names (pending.Words at some) self.old self.new) }
     {
         let module = modules.get(at.module_number).ok_or(MemoryOut)?;
-        push_words(&module.leaves, at, from, upto, &mut self.found.state)
+        push_words(
+            &module.leaves,
+            at,
+            some.from,
+            some.upto,
+            &mut self.found.state,
+        )?;
+        push_arrays(
+            &module.arrays,
+            at,
+            some.arrays_from,
+            some.arrays_upto,
+            &mut self.found.array_order,
+        )
     }
 }
 
@@ -170,26 +193,54 @@ fn behind_inner(own: usize, part: &LeafModule) -> Result<usize, MemoryOut>
     own.checked_add(inner).ok_or(MemoryOut)
 }
 
-/// Puts what is to come of a copy onto the rest: its words up to its first instance, that instance, and so on.
+/// The number behind those of the arrays of a module, the first of which is given.
+fn behind_arrays(array: usize, part: &LeafModule) -> Result<usize, MemoryOut>
+    ensures { IfOk result (λ y. y ≡ array + length part.now.arrays.items) }
+{
+    array.checked_add(part.arrays.len()).ok_or(MemoryOut)
+}
+
+/// Puts what is to come of a copy onto the rest: its words and arrays up to its first instance, that instance, and so
+/// on.
 fn push_parts(
     alloc: Global,
     at: Numbers,
     leaves: usize,
+    arrays: &[LeafArray],
     names: &[Name],
     prefix: &Name,
     instances: &[LeafInstance],
     pending: &mut Vec<Pending>,
 ) -> Result<(), MemoryOut>
-    ensures { OnOk result (pending.new.items ≡ pending.old.items ++ reverse (parts at leaves names.now prefix.now instances.now)) }
+    ensures { OnOk result (pending.new.items ≡ pending.old.items ++ reverse (parts at leaves (map (λ (a : ArrayOfCode). a.declaration) arrays.now) names.now prefix.now instances.now)) }
 {
     let mut upto = leaves;
+    let mut arrays_upto = arrays.len();
     for place in (0..instances.len()).rev() {
         let instance = instances[place];
-        pending.push(Pending::Words(at, instance.first, upto))?;
+        let arrays_from = arrays_before(arrays, arrays_upto, instance.declaration)?;
+        pending.push(Pending::Words(
+            at,
+            Stretch {
+                from: instance.first,
+                upto,
+                arrays_from,
+                arrays_upto,
+            },
+        ))?;
         pending.push(pending_module(alloc, at, names, prefix, instance)?)?;
         upto = instance.first;
+        arrays_upto = arrays_from;
     }
-    pending.push(Pending::Words(at, 0, upto))?;
+    pending.push(Pending::Words(
+        at,
+        Stretch {
+            from: 0,
+            upto,
+            arrays_from: 0,
+            arrays_upto,
+        },
+    ))?;
     Ok(())
 }
 

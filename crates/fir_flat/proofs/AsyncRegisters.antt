@@ -85,9 +85,9 @@ module _ (nodes : List Node) (holds : Holds) where
     same_ends a_clock (leafed.computed e) is = ap is_input_or_state is.1
     same_ends (number t) (leafed.register clock reset) is = ap is_input_or_state is.3
     same_ends a_clock (leafed.register clock reset) is = absurd is
-    same_ends (number t) (leafed.reading e) is = absurd is
+    same_ends (number t) (leafed.reading e) is = ap is_input_or_state is.1
     same_ends a_clock (leafed.reading e) is = absurd is
-    same_ends (number t) (leafed.pipe e clock under) is = absurd is
+    same_ends (number t) (leafed.pipe e clock under) is = ap is_input_or_state is.1
     same_ends a_clock (leafed.pipe e clock under) is = absurd is
 
     leaf_is : (h : LeafType) (clock : Term) (q : LeafReset) → IsTrue q.is_async → IsOfRole h (leafed.register clock (Some q)) → IsAsyncLeaf x q.init
@@ -124,7 +124,7 @@ module _ (nodes : List Node) (holds : Holds) where
       register_of a_clock leafed.sink is = absurd (clocked_not is.0 is.1)
       register_of (number t) (leafed.computed e) is = absurd (no_reset (ap reset_in is.1))
       register_of a_clock (leafed.computed e) is = absurd (no_reset (ap reset_in is.1))
-      register_of (number t) (leafed.reading e) is = absurd is
+      register_of (number t) (leafed.reading e) is = absurd (no_reset (ap reset_in is.1))
       register_of a_clock (leafed.reading e) is = absurd is
-      register_of (number t) (leafed.pipe e clock under) is = absurd is
+      register_of (number t) (leafed.pipe e clock under) is = absurd (no_reset (ap reset_in is.1))
       register_of a_clock (leafed.pipe e clock under) is = absurd is

@@ -1,6 +1,6 @@
 -- The leaves of a circuit in its flat net: what each holds, and that the net has the circuit's shape.
-use Rattle.std.proofs.Common.{◌≡◌, ℕ, ◌<◌, List, [], ◌∷◌, ◌++◌, map, length, Bool, true, false, nat_eq, if◌then◌else◌, slice_get, Option, inl, inr, ◌⊎◌, refl, sym, ap, ◌∙◌, arith, append-nil}
-use Rattle.std.specs.Prelude.{Some, flat_map}
+use Rattle.std.proofs.Common.{◌≡◌, ℕ, ◌<◌, List, [], ◌∷◌, ◌++◌, map, length, Bool, true, false, nat_eq, if◌then◌else◌, slice_get, Option, inl, inr, ◌⊎◌, refl, sym, ap, ◌∙◌, arith}
+use Rattle.std.specs.Prelude.{Some}
 use Rattle.std.proofs.lemmas.Option.{slice_get_within}
 use Rattle.fir_base.specs.Ticks.{Shape}
 use Rattle.fir_base.proofs.Elements.{there}
@@ -8,7 +8,7 @@ use Rattle.fir_bits.specs.declared.types.NumTy.{NumTy}
 use Rattle.fir_meaning.specs.LeafTypes.{LeafType, a_clock, number, number_type}
 use Rattle.fir_meaning.specs.working.LeafModules.{leaf_at}
 use Rattle.fir_meaning.specs.working.LeafCircuits.{LeafCircuit, type_of_leaf}
-use Rattle.fir_meaning.specs.working.LeafStates.{widths_in, widths_of}
+use Rattle.fir_meaning.specs.working.LeafStates.{widths_of}
 use Rattle.fir_meaning.specs.working.LeafStates as leafed
 use Rattle.fir_meaning.specs.working.TermValues.{Holds}
 use Rattle.fir_net.specs.declared.leaf.Leaf.{Leaf}
@@ -17,7 +17,7 @@ use Rattle.fir_net.specs.declared.leaf.Role.TheVariants as role
 use Rattle.fir_net.specs.declared.net.FlatNet.{FlatNet}
 use Rattle.fir_net.specs.declared.node.Node.{Node}
 use Rattle.fir_net.specs.declared.reads.Read.{Read}
-use Rattle.fir_net.specs.working.Arrays as net_arrays
+use Rattle.fir_net.specs.working.Arrays.{array_widths}
 use Rattle.fir_net.specs.working.IsNet.{IsNet}
 use Rattle.fir_net.specs.working.Settled.{clock_output_number, clock_outputs, input_number, inputs, is_clock, numbers_by, output_number, outputs, registers, shape, with_bits}
 use Rattle.fir_net.specs.working.Values.{leaf_width}
@@ -25,12 +25,12 @@ use Rattle.fir_net.specs.working.Values as net_values
 use Rattle.fir_net.proofs.NumberedLeaves.{GivesOwn, inputs_own}
 use Rattle.fir_net.proofs.NumberedLeaves as numbered
 use Rattle.fir_net.proofs.Places.{map_at}
-use Rattle.fir_net.proofs.StateWords.{register_at}
+use Rattle.fir_net.proofs.StateWords.{state_at, state_plain}
 use Rattle.fir_net.proofs.WholeValues.{width_at}
 use Rattle.fir_connect.specs.working.NetRoles.{NetRole, computed, driven, net_role_at, net_types, pipe, reading, register, source}
 use Rattle.fir_connect.specs.working.CircuitModules.{as_module}
 use Rattle.fir_flat.specs.working.FlatCircuits.{HasType, IsClockedBy, IsDrivenBy, IsFlatOf, IsRoleOf}
-use Rattle.fir_flat.proofs.NoArrays.{no_order}
+use Rattle.fir_flat.proofs.FlatArrays.{array_widths_are}
 
 -- whether it is a clock that a leaf holds
 abbrev pub holds_clock : LeafType → Bool
@@ -51,8 +51,8 @@ clock_kind nodes holds k x (number t) source is = ap is_clock is
 clock_kind nodes holds k x (number t) (driven d) is = driven_plain x is.0 is.1
 clock_kind nodes holds k x (number t) (computed d) is = ap is_clock is.1
 clock_kind nodes holds k x (number t) (register c reset d) is = ap is_clock is.3
-clock_kind nodes holds k x (number t) (reading e) is = absurd is
-clock_kind nodes holds k x (number t) (pipe e c u) is = absurd is
+clock_kind nodes holds k x (number t) (reading e) is = ap is_clock is.1
+clock_kind nodes holds k x (number t) (pipe e c u) is = ap is_clock is.1
 clock_kind nodes holds k x a_clock source is = ap is_clock is
 clock_kind nodes holds k x a_clock (driven d) is = clocked_ticks x is.0 is.1
 clock_kind nodes holds k x a_clock (computed d) is = ap is_clock is.1
@@ -129,7 +129,7 @@ clock_outputs_tick net = listed_of_kind clock_output_number true clock_outputs_o
 
 pub words_plain : (net : FlatNet) → IsNet net → AreOfKind net.leaves false (registers net)
 words_plain net whole = record {
-  each = λ n x e. let found = register_at whole.state n x e in (found.leaf, found.at, ap is_clock found.is);
+  each = λ n x e. let found = state_at whole.state n x e in (found.leaf, found.at, state_plain found.leaf.role found.is);
 }
 
 -- functions that agree at leaves of a kind give one list
@@ -183,6 +183,4 @@ module _ (c : LeafCircuit) (net : FlatNet) (flat : IsFlatOf c net) where
       let words : map (leaf_width net.leaves) (registers net) ≡ widths_of c c.words =
       widths_are (registers net) c.words (words_plain net whole) flat.words in
       same_shape _ _ _ _ _ _ (sym input_widths_are) (ap length (sym flat.clock_inputs))
-      (ap (λ (ks : List ℕ). widths_of c c.words ++ flat_map (widths_in c) ks) flat.no_arrays ∙ append-nil (widths_of c c.words)
-      ∙ sym (ap (λ (ks : List ℕ). map (leaf_width net.leaves) (registers net) ++ flat_map (net_arrays.widths_of net) ks) (no_order net whole flat.arrays)
-      ∙ append-nil (map (leaf_width net.leaves) (registers net)) ∙ words))
+      (sym (ap (λ (ws : List ℕ). ws ++ array_widths net) words ∙ ap (λ (ws : List ℕ). widths_of c c.words ++ ws) (array_widths_are c net flat)))

@@ -12,8 +12,8 @@ use Rattle.fir_net.specs.declared.net.FlatNet.{FlatNet}
 use Rattle.fir_net.specs.working.Laws.{LeavesFit}
 use Rattle.fir_net.specs.working.Settled.{is_clock}
 use Rattle.fir_flat.specs.working.FlatCircuits.{IsFlatOf}
+use Rattle.fir_flat.proofs.BesideValues.{IsBeside}
 use Rattle.fir_flat.proofs.FlatLeaves.{clock_at, holds_clock, kind_at, leaf_inside, leaf_there, number_at, type_at}
-use Rattle.fir_flat.proofs.ShownValues.{IsBeside}
 
 abbrev number_kept : LeafType → ℕ → ℕ
 number_kept (number t) n = n

@@ -11,7 +11,7 @@ use Rattle.fir_meaning.specs.working.Choices.{LiveReads}
 use Rattle.fir_meaning.specs.working.CircuitDependence.{CircuitDepends}
 use Rattle.fir_meaning.specs.working.Dependence.{RoleDepends, reading_reads, reads_if, reset_reads}
 use Rattle.fir_meaning.specs.working.LeafCircuits.{LeafCircuit, role_of}
-use Rattle.fir_meaning.specs.working.LeafModules.{LeafDeclared, LeafModule, LeafReset, depth_at, leaf_at, no_leaf}
+use Rattle.fir_meaning.specs.working.LeafModules.{LeafDeclared, LeafModule, LeafReset, Reading, depth_at, leaf_at, no_leaf}
 use Rattle.fir_meaning.specs.LeafTypes.{LeafType, a_clock, number}
 use Rattle.fir_meaning.specs.working.LeafModules as leafed
 use Rattle.fir_meaning.specs.working.TermReads.{reads}
@@ -39,7 +39,8 @@ use Rattle.fir_connect.specs.working.RoleLaws.{ReadsTheSame, ResetReads}
 use Rattle.fir_connect.proofs.RoleReading.{roles_read_the_same}
 use Rattle.fir_merge.specs.working.NodeTerms.{read_terms, terms}
 use Rattle.fir_connect.specs.working.CircuitModules.{as_module}
-use Rattle.fir_flat.specs.working.FlatCircuits.{IsClockedBy, IsDrivenBy, IsFlatOf, IsResetOf, IsRoleOf, NamesClock, reset_kept, stands_for}
+use Rattle.fir_flat.specs.working.FlatCircuits.{IsClockedBy, IsDrivenBy, IsFlatOf, IsResetOf, IsRoleOf, NamesClock, needs_term, reset_kept, stands_for}
+use Rattle.fir_flat.proofs.NeedTerms.{needs_read}
 use Rattle.fir_flat.proofs.ReachedLeaves.{hangs_is_read}
 
 -- the terms on which a leaf hangs within a tick, by its role in a net
@@ -51,16 +52,12 @@ abbrev reset_terms : Option NetReset → NetTerms
 reset_terms None = no_terms
 reset_terms (Some r) = kept_terms r.is_async r
 
-abbrev leaf_terms : List ℕ → NetTerms
-leaf_terms [] = no_terms
-leaf_terms (x ∷ xs) = term (leaf x) (leaf_terms xs)
-
 abbrev hanging : NetRole → NetTerms
 hanging source = no_terms
 hanging (driven d) = term d no_terms
 hanging (computed d) = term d no_terms
 hanging (register c reset d) = reset_terms reset
-hanging (reading e) = leaf_terms (reading_reads e)
+hanging (reading e) = term (leaf e.address) (term (needs_term e.needs) no_terms)
 hanging (pipe e c u) = no_terms
 
 -- what a leaf of the net reads stands for these, and the clock leaf that it reads is the one that they read
@@ -116,8 +113,11 @@ module _ (nodes : List Node) where
   number_stands holds k x t (computed d) is = driven_stands x is.0 (inr is.1) ∙ ap (λ e. term e no_terms) is.2
   number_stands holds k x t (register c reset d) is =
       ap (λ (y : Role). stand_for (role_reads y)) is.3 ∙ reset_stands is.1 reset (is_kept is.1 reset is.5)
-  number_stands holds k x t (reading e) is = absurd is
-  number_stands holds k x t (pipe e c u) is = absurd is
+  number_stands holds k x t (reading e) is =
+      ap (λ (y : Role). stand_for (role_reads y)) is.1
+      ∙ ap (λ (r : Read). term (stands_for nodes r) (term (stands_for nodes is.0.enable) no_terms)) is.2.address
+      ∙ ap (λ (d : NetTerm). term (leaf e.address) (term d no_terms)) is.2.enable
+  number_stands holds k x t (pipe e c u) is = ap (λ (y : Role). stand_for (role_reads y)) is.1
 
   role_stands : (holds : Holds) (k : ℕ) (x : Role) (h : LeafType) (n : NetRole) → IsRoleOf nodes holds k x h n
       → each_read (stand_for (role_reads x)) ≡ each_read (hanging n)
@@ -136,9 +136,9 @@ joined xs ys zs ws y first second = (
   λ m. ⊎_elim (λ (n : In zs y). in_left xs ys y (first.1 n)) (λ (n : In ws y). in_right xs ys y (second.1 n)) (in_either zs ws y m),
 )
 
-leaves_read : (xs : List ℕ) → each_read (leaf_terms xs) ≡ xs
-leaves_read [] = refl
-leaves_read (x ∷ xs) = ap (λ (ys : List ℕ). x ∷ ys) (leaves_read xs)
+-- a read of an array reads its address and what enables it
+reading_read : (e : Reading) → each_read (hanging (reading e)) ≡ reading_reads e
+reading_read e = ap (λ (xs : List ℕ). e.address ∷ xs) (append-nil (net_reads (needs_term e.needs)) ∙ needs_read e.needs)
 
 module _ (m : LeafModule) (x y : ℕ) where
   lone_reads : (d : NetTerm) (P : Type 0) → In (net_reads d) y ↔ P → In (each_read (term d no_terms)) y ↔ P
@@ -160,7 +160,7 @@ module _ (m : LeafModule) (x y : ℕ) where
   role_depends (leafed.computed e) same = lone_reads (lowered (net_types m) e) (In (reads e) y) (same y)
   role_depends (leafed.register clock reset) same = reset_depends reset same.1
   role_depends (leafed.reading e) same =
-      subst (λ (xs : List ℕ). In xs y ↔ In (reading_reads e) y) (sym (leaves_read (reading_reads e))) (λ i. i, λ i. i)
+      subst (λ (xs : List ℕ). In xs y ↔ In (reading_reads e) y) (sym (reading_read e)) (λ i. i, λ i. i)
   role_depends (leafed.pipe e clock under) same = (λ i. i, λ i. i)
 
 module _ (c : LeafCircuit) (net : FlatNet) (whole : IsNet net) (flat : IsFlatOf c net) (x y : ℕ) where

@@ -19,10 +19,11 @@ use Rattle.fir_net.proofs.LeafEquations.{value_equation}
 use Rattle.fir_net.proofs.SettledEquations as equations
 use Rattle.fir_net.proofs.ValuesAlong.{IsPlain}
 use Rattle.fir_flat.specs.working.FlatLaws.{IsFaithful}
+use Rattle.fir_flat.proofs.BesideValues.{leaves_fit}
 use Rattle.fir_flat.proofs.FlatLeaves.{clock_at, holds_clock, kind_at, leaf_inside, leaf_there, number_at, shape_is}
 use Rattle.fir_flat.proofs.KeptValues.{AreBeside, clock_behind, clock_has_no_number, kept, kept_beside, number_behind, number_has_no_clock}
 use Rattle.fir_flat.proofs.ShownClocks.{clock_shown_is}
-use Rattle.fir_flat.proofs.ShownValues.{leaves_fit, number_shown_is}
+use Rattle.fir_flat.proofs.ShownValues.{number_shown_is}
 
 module _ (c : LeafCircuit) (net : FlatNet) (faithful : IsFaithful c net) where
   module _ (law : HasItsType) (state : List ℕ) (tick : Tick) where

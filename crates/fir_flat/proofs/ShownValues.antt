@@ -1,10 +1,7 @@
 -- What each leaf of a circuit shows is what its leaf in the flat net is worth, by their roles.
-use Rattle.std.proofs.Common.{◌≡◌, ℕ, ◌^◌, ◌<◌, List, [], ◌∷◌, length, take, Bool, true, false, if◌then◌else◌, Option, Some, None, slice_get, slice_index, inl, inr, refl, sym, ap, ◌∙◌, subst}
+use Rattle.std.proofs.Common.{◌≡◌, ℕ, List, length, take, Bool, true, false, if◌then◌else◌, Option, Some, None, slice_get, slice_index, inl, inr, refl, sym, ap, ◌∙◌, subst}
 use Rattle.fir_base.specs.Ticks.{HasShape, Tick}
-use Rattle.fir_bits.specs.working.Operators.{type_of}
-use Rattle.fir_bits.specs.declared.types.NumTy.{NumTy}
 use Rattle.fir_bits.specs.declared.values.Num.{Num}
-use Rattle.fir_meaning.specs.Values as over
 use Rattle.fir_meaning.specs.working.LeafModules.{LeafReset, leaf_at}
 use Rattle.fir_meaning.specs.LeafTypes.{LeafType, a_clock, number, number_type}
 use Rattle.fir_meaning.specs.working.LeafModules as leafed
@@ -13,6 +10,7 @@ use Rattle.fir_meaning.specs.working.LeafCircuits.{LeafCircuit, depth_of, role_o
 use Rattle.fir_meaning.specs.working.LeafSettled.{number_shown, register_shown}
 use Rattle.fir_meaning.specs.working.LeafStates.{look}
 use Rattle.fir_leaf_types.specs.working.TypedModules.{IsRoleTyped, held_in}
+use Rattle.fir_memory_types.specs.working.TypedMemories.{IsMemoryRoleTyped}
 use Rattle.fir_net.specs.declared.leaf.Leaf.{Leaf}
 use Rattle.fir_net.specs.declared.leaf.Reset.{Reset}
 use Rattle.fir_net.specs.declared.leaf.Role.{Role}
@@ -21,30 +19,23 @@ use Rattle.fir_net.specs.declared.node.Node.{Node}
 use Rattle.fir_net.specs.declared.reads.Read.{Read}
 use Rattle.fir_net.specs.working.Arrays.{array_widths}
 use Rattle.fir_net.specs.working.IsNet.{CanBeReset, CanRead, IsRole}
-use Rattle.fir_net.specs.working.Laws.{LeavesFit}
-use Rattle.fir_net.specs.working.Settled.{inputs, is_clock, is_high, registers, shape, shown, value_at}
+use Rattle.fir_net.specs.working.Settled.{inputs, is_clock, registers, shape, shown, value_at}
 use Rattle.fir_net.specs.working.Values.{at_width, leaf_width}
 use Rattle.fir_net.proofs.ArrayWords.{front_fits}
 use Rattle.fir_net.proofs.LeafEquations.{driven_at, equation_at, front_word, role_value, value_equation}
 use Rattle.fir_net.proofs.Places.{place_of}
 use Rattle.fir_connect.specs.working.NetRoles.{NetReset, net_role, net_role_at, net_types}
 use Rattle.fir_connect.specs.working.NetTerms.{NetTerm}
-use Rattle.fir_connect.specs.working.NetValues.{term_value}
 use Rattle.fir_connect.specs.working.RoleLaws.{Gives, ResetGives, net_fitted}
-use Rattle.fir_connect.proofs.FittedTwice.{fitted_own}
 use Rattle.fir_connect.proofs.RoleValues.{roles_are_worth}
 use Rattle.fir_connect.proofs.TypedValues.{value_type}
 use Rattle.fir_connect.specs.working.CircuitModules.{as_module}
 use Rattle.fir_flat.specs.working.FlatCircuits.{HasType, IsDrivenBy, IsResetOf, IsRoleOf, reset_kept, stands_for}
 use Rattle.fir_flat.specs.working.FlatLaws.{IsFaithful}
-use Rattle.fir_flat.proofs.FlatLeaves.{holds_clock, kind_at, leaf_inside, type_at}
+use Rattle.fir_flat.proofs.BesideValues.{IsBeside, high_worth, own_number, read_worth}
+use Rattle.fir_flat.proofs.FlatLeaves.{holds_clock, kind_at, leaf_inside}
 use Rattle.fir_flat.proofs.LeafPlaces.{look_front, look_is}
-use Rattle.fir_flat.proofs.NodeValues.{AgreesWith, read_is_worth}
-
--- values of a circuit's leaves within their widths, and values of a net's leaves that are the same where there is no clock
-pub record IsBeside (c : LeafCircuit) (net : FlatNet) (env : Env) (e : ℕ → ℕ) : Type 0 where
-  pub within : (x : ℕ) → env.numbers x < 2 ^ (type_of_leaf c x).width
-  pub values : (x : ℕ) (l : Leaf) → slice_get net.leaves x ≡ Some l → is_clock l.role ≡ false → e x ≡ env.numbers x
+use Rattle.fir_flat.proofs.ReadWords.{word_read_is}
 
 driven_value : (net : FlatNet) (state : List ℕ) (tick : Tick) (e : ℕ → ℕ) (x w : ℕ) (y : Role) (r : Read) → IsDrivenBy y r
     → role_value net state tick e x w y ≡ at_width (value_at net e r) w
@@ -56,32 +47,7 @@ driven_can : (leaves : List Leaf) (nodes : List Node) (signed : Bool) (width : �
 driven_can leaves nodes signed width y r (inl is) can = (subst (IsRole leaves nodes signed width) is can).can
 driven_can leaves nodes signed width y r (inr is) can = (subst (IsRole leaves nodes signed width) is can).can
 
--- at its own width a value is its number
-own_number : (v : Num) (t : NumTy) (w : ℕ) → type_of v ≡ t → w ≡ t.width → at_width v w ≡ v.value.number
-own_number v t w of wide =
-    let same : w ≡ v.value.width = wide ∙ ap (λ (u : NumTy). u.width) (sym of) in
-    ap (at_width v) same ∙ fitted_own v.signed v.value.width v.value.number
-
 module _ (c : LeafCircuit) (net : FlatNet) (faithful : IsFaithful c net) (env : Env) (e : ℕ → ℕ) (beside : IsBeside c net env e) where
-  pub agrees : AgreesWith net.leaves e (type_of_leaf c) env.numbers
-  agrees = record { types = type_at c net faithful.flat; values = beside.values }
-
-  pub leaves_fit : LeavesFit net.leaves e
-  leaves_fit = record {
-    each = λ x l at plain.
-        let width = ap (λ (t : NumTy). t.width) (type_at c net faithful.flat x l at plain) in
-        rw (beside.values x l at plain, width) (beside.within x);
-  }
-
-  abbrev worth : NetTerm → Num
-  worth t = term_value (type_of_leaf c) env.numbers t
-
-  read_worth : (r : Read) (d : NetTerm) → CanRead net.leaves net.nodes r → stands_for net.nodes r ≡ d → value_at net e r ≡ worth d
-  read_worth r d can is = read_is_worth net e (type_of_leaf c) env.numbers faithful.whole agrees r can ∙ ap worth is
-
-  pub high_worth : (r : Read) (d : NetTerm) → CanRead net.leaves net.nodes r → stands_for net.nodes r ≡ d → is_high net e r ≡ over.is_high (worth d ∷ [])
-  high_worth r d can is = ap (λ (v : Num). over.is_high (v ∷ [])) (read_worth r d can is)
-
   module _ (x : ℕ) (l : Leaf) (at : slice_get net.leaves x ≡ Some l) where
     pub gives : Gives (as_module c) env.numbers env.clocks x (leaf_at c.leaves x).holds (role_of c x) (net_role_at (as_module c) x)
     gives = roles_are_worth (as_module c) env.numbers env.clocks faithful.typed faithful.driven beside.within x (leaf_inside c net faithful.flat x l at)
@@ -90,7 +56,7 @@ module _ (c : LeafCircuit) (net : FlatNet) (faithful : IsFaithful c net) (env : 
       -- what a read gives to the leaf
       pub given_worth : (r : Read) (d : NetTerm) → CanRead net.leaves net.nodes r → stands_for net.nodes r ≡ d
           → net_fitted (as_module c) env.numbers env.clocks d x ≡ at_width (value_at net e r) l.width
-      given_worth r d can is = rw (read_worth r d can is, wide) refl
+      given_worth r d can is = rw (read_worth c net faithful env e beside r d can is, wide) refl
 
       reset_shown : (word : ℕ) (r : LeafReset) (m : NetReset) (own : Reset) → m.is_async ≡ true
           → ResetGives (as_module c) env.numbers env.clocks x (Some r) (Some m) → IsResetOf net.nodes (Some own) (Some m)
@@ -101,7 +67,7 @@ module _ (c : LeafCircuit) (net : FlatNet) (faithful : IsFaithful c net) (env : 
             stays,
             worths.1,
             worths.2,
-            ← high_worth own.condition m.condition can.condition is.1,
+            ← high_worth c net faithful env e beside own.condition m.condition can.condition is.1,
             given_worth own.init m.init can.init.can is.2,
             is.0,
           )
@@ -141,31 +107,35 @@ module _ (c : LeafCircuit) (net : FlatNet) (faithful : IsFaithful c net) (env : 
         shown_by_role : (h : LeafType) → (leaf_at c.leaves x).holds ≡ h → (r : leafed.Role)
             → Gives (as_module c) env.numbers env.clocks x h r (net_role (net_types (as_module c)) (depth_of c x) c.body x r)
             → IsRoleOf net.nodes (net_types (as_module c)) x y h (net_role (net_types (as_module c)) (depth_of c x) c.body x r) → HasType l h
-            → IsRoleTyped (held_in (as_module c)) h r → holds_clock h ≡ false
+            → IsRoleTyped (held_in (as_module c)) h r → IsMemoryRoleTyped c.leaves c.arrays h r → holds_clock h ≡ false
             → number_shown c state tick.inputs env x r ≡ Some (role_value net state tick e x l.width y)
-        shown_by_role a_clock held r worths is has typed plain = cc
-        shown_by_role (number t) held leafed.source worths is has typed plain = rw is (ap Some input_looked)
-        shown_by_role (number t) held leafed.sink worths is has typed plain =
+        shown_by_role a_clock held r worths is has typed memory plain = cc
+        shown_by_role (number t) held leafed.source worths is has typed memory plain = rw is (ap Some input_looked)
+        shown_by_role (number t) held leafed.sink worths is has typed memory plain =
             let wide : l.width ≡ (type_of_leaf c x).width = has.1 ∙ ap (λ (h : LeafType). (number_type h).width) (sym held) in
             worths
             ∙ ap Some (given_worth wide is.0 _ (driven_can net.leaves net.nodes l.signed l.width y is.0 is.1 can) is.2
             ∙ sym (driven_value net state tick e x l.width y is.0 is.1))
-        shown_by_role (number t) held (leafed.computed d) worths is has typed plain =
+        shown_by_role (number t) held (leafed.computed d) worths is has typed memory plain =
             let value : value_at net e is.0 ≡ eval (type_of_leaf c) env.numbers d =
-            read_worth is.0 _ (driven_can net.leaves net.nodes l.signed l.width y is.0 (inr is.1) can) is.2 ∙ sym worths in
+            read_worth c net faithful env e beside is.0 _ (driven_can net.leaves net.nodes l.signed l.width y is.0 (inr is.1) can) is.2 ∙ sym worths in
             ap Some (sym (driven_value net state tick e x l.width y is.0 (inr is.1) ∙ ap (λ (v : Num). at_width v l.width) value
             ∙ own_number (eval (type_of_leaf c) env.numbers d) t l.width (value_type (held_in (as_module c)) env.numbers d t typed) has.1))
-        shown_by_role (number t) held (leafed.register clock reset) worths is has typed plain =
+        shown_by_role (number t) held (leafed.register clock reset) worths is has typed memory plain =
             let wide : l.width ≡ (type_of_leaf c x).width = has.1 ∙ ap (λ (h : LeafType). (number_type h).width) (sym held) in
             let role_can = subst (IsRole net.leaves net.nodes l.signed l.width) is.3 can in
             ap Some (word_shown wide (look c.words state x) reset _ is.1 worths.1 is.5 role_can.1 ∙ ap (shown net e l.width is.1) word_looked
             ∙ sym (ap (role_value net state tick e x l.width) is.3))
-        shown_by_role (number t) held (leafed.reading r) worths is has typed plain = absurd is
-        shown_by_role (number t) held (leafed.pipe r clock under) worths is has typed plain = absurd is
+        shown_by_role (number t) held (leafed.reading m) worths is has typed memory plain =
+            let role_can = subst (IsRole net.leaves net.nodes l.signed l.width) is.1 can in
+            ap Some (sym (ap (role_value net state tick e x l.width) is.1
+            ∙ word_read_is c net faithful env e beside is.0 m is.2 role_can memory.needs state))
+        shown_by_role (number t) held (leafed.pipe m clock under) worths is has typed memory plain =
+            ap Some (word_looked ∙ sym (ap (role_value net state tick e x l.width) is.1))
 
       pub number_shown_is : is_clock l.role ≡ false → number_shown c state tick.inputs env x (role_of c x) ≡ Some (value_equation net state tick e x)
       number_shown_is plain =
           shown_by_role l.role (driven_at net faithful.whole x l l.role at refl) (leaf_at c.leaves x).holds refl (role_of c x) gives
           (faithful.flat.roles x l at) (faithful.flat.types x l at)
-          (faithful.typed.roles x (leaf_inside c net faithful.flat x l at)) (sym (kind_at c net faithful.flat x l at) ∙ plain)
+          (faithful.typed.roles x (leaf_inside c net faithful.flat x l at)) (faithful.memories.roles x (leaf_inside c net faithful.flat x l at)) (sym (kind_at c net faithful.flat x l at) ∙ plain)
           ∙ ap Some (sym (equation_at net state tick e x l l.role at refl))

@@ -21,8 +21,9 @@ use Rattle.fir_connect.proofs.FittedTwice.{fitted_own}
 use Rattle.fir_connect.specs.working.CircuitModules.{as_module}
 use Rattle.fir_flat.specs.working.FlatCircuits.{IsNextOf, IsResetOf, next_of, reset_kept}
 use Rattle.fir_flat.specs.working.FlatLaws.{IsFaithful}
+use Rattle.fir_flat.proofs.BesideValues.{IsBeside, agrees, high_worth, leaves_fit}
 use Rattle.fir_flat.proofs.ChosenValues.{picked_at_width}
-use Rattle.fir_flat.proofs.ShownValues.{IsBeside, agrees, given_worth, high_worth, leaves_fit}
+use Rattle.fir_flat.proofs.ShownValues.{given_worth}
 
 -- while its reset is 1, a register that is reset at once keeps its init
 asynchronous_next : (high edge : Bool) (init stored word : ℕ)

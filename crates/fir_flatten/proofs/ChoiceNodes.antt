@@ -1,5 +1,6 @@
--- The choice of a synchronous reset is a node over the kept ones and those before it (FIRRTL spec, "Registers", "Multiplexers").
-use Rattle.std.proofs.Common.{◌≡◌, ℕ, suc, max, List, [], ◌∷◌, ◌++◌, length, Bool, true, false, if◌then◌else◌, Some, None, slice_get, refl, sym, ap, ap₂, ◌∙◌, subst, append_assoc, append-nil}
+-- What a role adds are nodes over the kept ones and those before them: the choice of a synchronous reset, and what enables a memory's port (FIRRTL spec, "Registers",
+-- "Multiplexers", "Memories").
+use Rattle.std.proofs.Common.{◌≡◌, ℕ, suc, ◌+◌, max, List, [], ◌∷◌, ◌++◌, length, Bool, true, false, if◌then◌else◌, Some, None, slice_get, refl, sym, ap, ap₂, ◌∙◌, subst, append_assoc, append-nil, length-append}
 use Rattle.fir_bits.specs.declared.types.NumTy.{NumTy}
 use Rattle.fir_leaf_circuit.specs.declared.leaf.LeafType.{LeafType as TypeOfCode}
 use Rattle.fir_leaf_circuit.specs.declared.leaf.LeafType.TheVariants.{Clock, Number}
@@ -18,11 +19,12 @@ use Rattle.fir_whens.specs.declared.net_role.NetReset.{NetReset}
 use Rattle.fir_whens.specs.declared.net_role.NetRole.{NetRole}
 use Rattle.fir_whens.specs.declared.net_role.NetRole.TheVariants as code
 use Rattle.fir_flatten.specs.declared.design_net.DesignLeaf.{DesignLeaf}
-use Rattle.fir_flatten.specs.working.FlatRoles.{choice_node, choices_behind, choices_of, choices_of_reset}
+use Rattle.fir_flatten.specs.working.FlatRoles.{added_behind, added_by, choice_node, choices_of_reset}
 use Rattle.fir_flatten.specs.working.KeptNodes.{LeavesHold, moved}
 use Rattle.fir_flatten.proofs.BuiltNodes.{AreBuilt, built_push}
 use Rattle.fir_flatten.proofs.GivenRoles.{Drives, IsGiven, Resets}
 use Rattle.fir_flatten.proofs.MovedRoles.{StandsMoved}
+use Rattle.fir_flatten.proofs.PortBits.{reading_built}
 use Rattle.fir_flatten.proofs.ReadTypes.{IsRead, read_is}
 
 -- the one choice of a reset that acts at edges
@@ -74,26 +76,31 @@ module _
           built_push leaves old ns (choice_node places s next) built (h.condition.below, (h.init.stands.below, (d.stands.below, tt)))
           (choice_is u s p next t h d)
 
-  pub choices_built : (holds : TypeOfCode) (r : NetRole) (q : RoleMeant) → IsGiven c (StandsMoved c places ns) holds r q
-      → AreBuilt leaves old (ns ++ choices_of places r)
-  choices_built Clock code.Source meant.source is = no_choices
-  choices_built (Number u) code.Source meant.source is = no_choices
-  choices_built Clock (code.Driven b) (meant.driven t) is = no_choices
-  choices_built Clock (code.Computed b) (meant.computed t) is = no_choices
-  choices_built (Number u) (code.Driven b) (meant.driven t) is = no_choices
-  choices_built (Number u) (code.Computed b) (meant.computed t) is = no_choices
-  choices_built (Number u) (code.Register clock None next) (meant.register k None t) is = no_choices
-  choices_built (Number u) (code.Register clock (Some s) next) (meant.register k (Some p) t) is = reset_built u s p next t is.1 is.2
-  choices_built (Number u) (code.Register clock None next) (meant.register k (Some p) t) is = absurd is.1
-  choices_built (Number u) (code.Register clock (Some s) next) (meant.register k None t) is = absurd is.1
-  choices_built holds r q is = absurd is
+  pub nodes_built : (holds : TypeOfCode) (r : NetRole) (q : RoleMeant) → IsGiven c (StandsMoved c places ns) holds r q
+      → AreBuilt leaves old (ns ++ added_by places r (length ns))
+  nodes_built Clock code.Source meant.source is = no_choices
+  nodes_built (Number u) code.Source meant.source is = no_choices
+  nodes_built Clock (code.Driven b) (meant.driven t) is = no_choices
+  nodes_built Clock (code.Computed b) (meant.computed t) is = no_choices
+  nodes_built (Number u) (code.Driven b) (meant.driven t) is = no_choices
+  nodes_built (Number u) (code.Computed b) (meant.computed t) is = no_choices
+  nodes_built (Number u) (code.Register clock None next) (meant.register k None t) is = no_choices
+  nodes_built (Number u) (code.Register clock (Some s) next) (meant.register k (Some p) t) is = reset_built u s p next t is.1 is.2
+  nodes_built (Number u) (code.Register clock None next) (meant.register k (Some p) t) is = absurd is.1
+  nodes_built (Number u) (code.Register clock (Some s) next) (meant.register k None t) is = absurd is.1
+  nodes_built (Number u) (code.Reading e) (meant.reading r) is = reading_built c leaves hold old ns built e.enable e.mode is.typed.needs
+  nodes_built (Number u) (code.Pipe e clock under) (meant.pipe r k v) is = reading_built c leaves hold old ns built e.enable e.mode is.reads.typed.needs
+  nodes_built holds r q is = absurd is
 
 -- leaf by leaf
 pub all_built : (leaves : List Leaf) (places : List ℕ) (old : List Node) (ls : List DesignLeaf) (rs : List NetRole)
-    → ((k : ℕ) (r : NetRole) → slice_get rs k ≡ Some r → (ns : List Node) → AreBuilt leaves old ns → AreBuilt leaves old (ns ++ choices_of places r))
-    → (ns : List Node) → AreBuilt leaves old ns → AreBuilt leaves old (ns ++ choices_behind places ls rs)
+    → ((k : ℕ) (r : NetRole) → slice_get rs k ≡ Some r → (ns : List Node) → AreBuilt leaves old ns → AreBuilt leaves old (ns ++ added_by places r (length ns)))
+    → (ns : List Node) → AreBuilt leaves old ns → AreBuilt leaves old (ns ++ added_behind places ls rs (length ns))
 all_built leaves places old [] rs each ns built = subst (AreBuilt leaves old) (sym (append-nil ns)) built
 all_built leaves places old (l ∷ ls) [] each ns built = subst (AreBuilt leaves old) (sym (append-nil ns)) built
 all_built leaves places old (l ∷ ls) (r ∷ rs) each ns built =
-    subst (AreBuilt leaves old) (append_assoc ns (choices_of places r) (choices_behind places ls rs))
-    (all_built leaves places old ls rs (λ k s at. each (suc k) s at) (ns ++ choices_of places r) (each 0 r refl ns built))
+    let own = added_by places r (length ns) in
+    let long : length (ns ++ own) ≡ length ns + length own = length-append ns own in
+    subst (AreBuilt leaves old)
+    (ap (λ (n : ℕ). (ns ++ own) ++ added_behind places ls rs n) long ∙ append_assoc ns own (added_behind places ls rs (length ns + length own)))
+    (all_built leaves places old ls rs (λ k s at. each (suc k) s at) (ns ++ own) (each 0 r refl ns built))

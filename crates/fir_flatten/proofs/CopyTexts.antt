@@ -67,31 +67,34 @@ module _ (scenes : List Scene) where
       (h.0, behind_joined (free + length (inner_leaves (module_of (views scenes) k.module_number))) middle high ks ls h.1 g)
 
   mutual
-    item_behind : (n : Numbering) (free : ℕ) (x : Item) → IsItemIn (views scenes) x → Behind free (free + count x) (copies_in n free x)
-    item_behind n free (drive p b ps t) h = omega arith
-    item_behind n free (when p t a b) h =
+    item_behind : (n : Numbering) (free array : ℕ) (x : Item) → IsItemIn (views scenes) x → Behind free (free + count x) (copies_in n free array x)
+    item_behind n free array (drive p b ps t) h = omega arith
+    item_behind n free array (when p t a b) h =
+        let second = array + array_count_all a in
         let far : (free + count_all a) + count_all b ≡ free + (count_all a + count_all b) = omega arith in
-        subst (λ high. Behind free high (all_copies_in n free a ++ all_copies_in n (free + count_all a) b)) far
-        (behind_joined free (free + count_all a) ((free + count_all a) + count_all b) (all_copies_in n free a) (all_copies_in n (free + count_all a) b)
-        (items_behind n free a h.0) (items_behind n (free + count_all a) b h.1))
-    item_behind n free (instance y d) h = design_behind y.module_number (number n y.first) free d h
+        subst (λ high. Behind free high (all_copies_in n free array a ++ all_copies_in n (free + count_all a) second b)) far
+        (behind_joined free (free + count_all a) ((free + count_all a) + count_all b) (all_copies_in n free array a)
+        (all_copies_in n (free + count_all a) second b) (items_behind n free array a h.0) (items_behind n (free + count_all a) second b h.1))
+    item_behind n free array (instance y d) h = design_behind y.module_number (number n y.first) free array d h
 
-    items_behind : (n : Numbering) (free : ℕ) (xs : Items) → AreItemsIn (views scenes) xs → Behind free (free + count_all xs) (all_copies_in n free xs)
-    items_behind n free done h = omega arith
-    items_behind n free ((then) x xs) h =
+    items_behind : (n : Numbering) (free array : ℕ) (xs : Items) → AreItemsIn (views scenes) xs
+        → Behind free (free + count_all xs) (all_copies_in n free array xs)
+    items_behind n free array done h = omega arith
+    items_behind n free array ((then) x xs) h =
+        let next = array + array_count x in
         let far : (free + count x) + count_all xs ≡ free + (count x + count_all xs) = omega arith in
-        subst (λ high. Behind free high (copies_in n free x ++ all_copies_in n (free + count x) xs)) far
-        (behind_joined free (free + count x) ((free + count x) + count_all xs) (copies_in n free x) (all_copies_in n (free + count x) xs)
-        (item_behind n free x h.0) (items_behind n (free + count x) xs h.1))
+        subst (λ high. Behind free high (copies_in n free array x ++ all_copies_in n (free + count x) next xs)) far
+        (behind_joined free (free + count x) ((free + count x) + count_all xs) (copies_in n free array x) (all_copies_in n (free + count x) next xs)
+        (item_behind n free array x h.0) (items_behind n (free + count x) next xs h.1))
 
-    pub design_behind : (x first free : ℕ) (d : Design) → IsDesignOf (views scenes) (module_of (views scenes) x) d
-        → Behind free (free + count_below d) (copies_below x first free d)
-    design_behind x first free (made_of m is) h =
+    pub design_behind : (x first free array : ℕ) (d : Design) → IsDesignOf (views scenes) (module_of (views scenes) x) d
+        → Behind free (free + count_below d) (copies_below x first free array d)
+    design_behind x first free array (made_of m is) h =
         let own = length (inner_leaves m) in
         let far : (free + own) + count_all is ≡ free + (own + count_all is) = omega arith in
-        let ks = all_copies_in (numbering m first free) (free + own) is in
+        let ks = all_copies_in (numbering m first free) (free + own) (array + length m.arrays) is in
         let rest : Behind (free + own) (free + (own + count_all is)) ks =
-        subst (λ high. Behind (free + own) high ks) far (items_behind (numbering m first free) (free + own) is h.2) in
+        subst (λ high. Behind (free + own) high ks) far (items_behind (numbering m first free) (free + own) (array + length m.arrays) is h.2) in
         (refl, subst (λ (v : LeafModule). Behind (free + length (inner_leaves v)) (free + (own + count_all is)) ks) h.0 rest)
 
   pub are_behind : (free high : ℕ) (ks : List ModuleCopy) → Behind free high (map copy_seen ks) → AreBehind scenes free ks
@@ -141,10 +144,11 @@ module _ (scenes : List Scene) where
 
   mutual
     item_leaves : (path : LeafPath) (k : ℕ) (m : LeafModule) (n : Numbering) (free array : ℕ) (x : Item) → IsItemIn (views scenes) x → IsNamedItem m x
-        → AreLeaves (copies_in n free x) (paths_in path m x) (leaves_in path k m n free array x)
+        → AreLeaves (copies_in n free array x) (paths_in path m x) (leaves_in path k m n free array x)
     item_leaves path k m n free array (drive p b ps t) h g = no_leaves
     item_leaves path k m n free array (when p t a b) h g =
-        both_leaves (all_copies_in n free a) (all_copies_in n (free + count_all a) b) (all_paths_in path m a) (all_paths_in path m b)
+        both_leaves (all_copies_in n free array a) (all_copies_in n (free + count_all a) (array + array_count_all a) b) (all_paths_in path m a)
+        (all_paths_in path m b)
         (all_leaves_in path (k + 1) m n free array a) (all_leaves_in path (k + 1) m n (free + count_all a) (array + array_count_all a) b)
         (items_leaves path (k + 1) m n free array a h.0 g.0)
         (items_leaves path (k + 1) m n (free + count_all a) (array + array_count_all a) b h.1 g.1)
@@ -152,16 +156,16 @@ module _ (scenes : List Scene) where
         design_leaves (instance_path path m y) k y.module_number (number n y.first) free array (made_of v is) h (g.1, g.3)
 
     items_leaves : (path : LeafPath) (k : ℕ) (m : LeafModule) (n : Numbering) (free array : ℕ) (xs : Items) → AreItemsIn (views scenes) xs
-        → AreNamedItems m xs → AreLeaves (all_copies_in n free xs) (all_paths_in path m xs) (all_leaves_in path k m n free array xs)
+        → AreNamedItems m xs → AreLeaves (all_copies_in n free array xs) (all_paths_in path m xs) (all_leaves_in path k m n free array xs)
     items_leaves path k m n free array done h g = no_leaves
     items_leaves path k m n free array ((then) x xs) h g =
-        both_leaves (copies_in n free x) (all_copies_in n (free + count x) xs) (paths_in path m x) (all_paths_in path m xs)
+        both_leaves (copies_in n free array x) (all_copies_in n (free + count x) (array + array_count x) xs) (paths_in path m x) (all_paths_in path m xs)
         (leaves_in path k m n free array x) (all_leaves_in path k m n (free + count x) (array + array_count x) xs)
         (item_leaves path k m n free array x h.0 g.0)
         (items_leaves path k m n (free + count x) (array + array_count x) xs h.1 g.1)
 
     pub design_leaves : (path : LeafPath) (k x first free array : ℕ) (d : Design) → IsDesignOf (views scenes) (module_of (views scenes) x) d
-        → NamedBelow d → AreLeaves (copies_below x first free d) (paths_below path d) (leaves_below path k first free array d)
+        → NamedBelow d → AreLeaves (copies_below x first free array d) (paths_below path d) (leaves_below path k first free array d)
     design_leaves path k x first free array (made_of m is) h g =
         let n = numbering m first free in
         let own = map (placed_leaf path k n array) (inner_leaves m) in

@@ -11,6 +11,8 @@ use Rattle.fir_design.proofs.NumberedScenes.{view_at}
 use Rattle.fir_design.specs.working.SourceLaws.{HasOneTree}
 use Rattle.fir_elaborate.specs.declared.elaborated.Elaborated.{Elaborated}
 use Rattle.fir_elaborate.specs.declared.elaborated.ModuleCopy.{ModuleCopy}
+use Rattle.fir_elaborate.proofs.CopyArrays.{arrays_of_modules}
+use Rattle.fir_elaborate.specs.working.CopyArrays.{array_seen, arrays_of_copy}
 use Rattle.fir_elaborate.specs.working.CopyPaths.{paths_below, prefix_text}
 use Rattle.fir_elaborate.specs.working.Elaborations.{IsElaborated, copy_seen}
 use Rattle.fir_meaning.specs.ModuleScenes.{Scene}
@@ -44,7 +46,7 @@ module _ (one : HasOneTree) (all_stand : CopiesStand) (give_all : CopiesGiveAll)
         let high = m.port_leaves + count_below (made_of m is) in
         subst (λ (u : LeafModule). AreBehind scenes u.port_leaves ks) designed.sound.is.0
         (are_behind scenes m.port_leaves high ks
-        (subst (Behind scenes m.port_leaves high) (sym copies) (design_behind scenes x 0 m.port_leaves (made_of m is) is_design)))
+        (subst (Behind scenes m.port_leaves high) (sym copies) (design_behind scenes x 0 m.port_leaves 0 (made_of m is) is_design)))
 
     all_leaves : map (seen_behind []) (flattened (made_of m is)).leaves
         ≡ map (seen_behind []) (port_leaves (leafed_module main)) ++ flat_map (leaves_of_copy scenes) ks
@@ -68,10 +70,10 @@ module _ (one : HasOneTree) (all_stand : CopiesStand) (give_all : CopiesGiveAll)
 
   made : (ks : List ModuleCopy) → map copy_seen ks ≡ copies_of x (made_of m is)
       → map (λ (k : ModuleCopy). k.prefix) ks ≡ map prefix_text (paths_below [] (made_of m is))
-      → AreCopiesOf scenes main (flattened (made_of m is)) ks
-  made [] copies prefixes = absurd (cc)
-  made (k ∷ ks) copies prefixes =
-      let same : copy_seen k ≡ record { module_number = x; first = 0; own = m.port_leaves } = cc in
+      → map array_seen (flattened (made_of m is)).arrays ≡ flat_map (arrays_of_copy scenes) ks → AreCopiesOf scenes main (flattened (made_of m is)) ks
+  made [] copies prefixes arrays = absurd (cc)
+  made (k ∷ ks) copies prefixes arrays =
+      let same : copy_seen k ≡ record { module_number = x; first = 0; own = m.port_leaves; array = 0 } = cc in
       record {
         first = k;
         others = ks;
@@ -80,6 +82,7 @@ module _ (one : HasOneTree) (all_stand : CopiesStand) (give_all : CopiesGiveAll)
         from_first = ap (λ (z : Copy). z.first) same;
         behind = all_behind (k ∷ ks) copies prefixes;
         leaves = all_leaves (k ∷ ks) copies prefixes;
+        arrays = arrays;
         stand = each_stands (k ∷ ks) copies prefixes;
         given = all_given (k ∷ ks) copies prefixes;
       }
@@ -89,3 +92,4 @@ pub copies_of_design : HasOneTree → CopiesStand → CopiesGiveAll → (c : Cir
     → AreCopiesOf scenes main (flattened d) e.copies.items
 copies_of_design one all_stand give_all c scenes main (made_of m is) designed x at e elaborated =
     made one all_stand give_all c scenes main m is designed x at e.copies.items elaborated.copies elaborated.prefixes
+    (arrays_of_modules scenes x (made_of m is) (is_design one all_stand give_all c scenes main m is designed x at) e elaborated)

@@ -16,7 +16,7 @@ use Rattle.fir_net.specs.working.IsWritable.{HasConstantInits}
 use Rattle.fir_inits.specs.working.ShowsInit.{ShowsInit}
 use Rattle.fir_flat.specs.working.FlatInits.{HidesNoInit, ShowsTheSameInits}
 use Rattle.fir_flatten.specs.working.FlatDesigns.{IsFlatDesign}
-use Rattle.fir_flatten.specs.working.Laws.{DesignsArePlain, DesignsTellInits, IsDesigned, IsTakenDesign}
+use Rattle.fir_flatten.specs.working.Laws.{DesignsArePlain, DesignsTellInits, IsDesigned, IsClearDesign}
 use Rattle.fir_flatten.proofs.DesignedNets.{net_of_design, source_is}
 use Rattle.fir_flatten.proofs.DesignsOfCircuits.{designs_beside, tree_of}
 use Rattle.fir_flatten.proofs.PlainNets.{IsPlainNet}
@@ -31,7 +31,7 @@ pub record LawsOfInits : Type 0 where
 
 module _
     (laws : LawsOfInits) (c : CircuitTree) (scenes : List Scene) (main : Scene) (d : Design) (net : FlatNet) (designed : IsDesigned c scenes main d)
-    (taken : IsTakenDesign scenes d) (flat : IsFlatDesign (flattened d) (leafed_module main).port_leaves net) where
+    (taken : IsClearDesign scenes d) (flat : IsFlatDesign (flattened d) (leafed_module main).port_leaves net) where
   is : IsPlainNet (flattened d) (leafed_module main).port_leaves net
   is = net_of_design c scenes main d designed laws.plain taken net flat
 

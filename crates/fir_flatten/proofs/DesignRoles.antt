@@ -4,13 +4,13 @@ use Rattle.std.specs.Prelude.{slice_get}
 use Rattle.std.proofs.lemmas.List.{length-map, length-replicate}
 use Rattle.std.proofs.lemmas.Option.{same_Some, slice_get_within}
 use Rattle.fir_base.specs.Lists.{In}
-use Rattle.fir_base.proofs.Elements.{there}
+use Rattle.fir_base.proofs.Elements.{get_in, there}
 use Rattle.fir_base.proofs.Members.{in_map_from}
 use Rattle.fir_base.proofs.Writes.{get-replicate, two_items}
 use Rattle.fir_meaning.specs.LeafTypes.{number_type}
 use Rattle.fir_meaning.specs.ModuleScenes.{Scene}
 use Rattle.fir_meaning.specs.working.LeafCircuits.{LeafCircuit, role_of}
-use Rattle.fir_meaning.specs.working.LeafModules.{LeafModule, Role, depth_at, role_at}
+use Rattle.fir_meaning.specs.working.LeafModules.{LeafModule, Role, depth_at, leaf_at, role_at}
 use Rattle.fir_meaning.specs.working.LeafModules as leafed
 use Rattle.fir_meaning.specs.working.LeafedModules.{leafed_module}
 use Rattle.fir_meaning.specs.working.Numberings.{Numbering, number}
@@ -22,6 +22,7 @@ use Rattle.fir_copies.specs.working.Copies.{Copy}
 use Rattle.fir_copies.specs.working.CopyLaws.{IsGiven, IsGivenBy, IsMainInput, StandsIn, numbers_of}
 use Rattle.fir_elaborate.specs.declared.elaborated.ModuleCopy.{ModuleCopy}
 use Rattle.fir_elaborate.specs.working.Elaborations.{copy_seen}
+use Rattle.fir_memory_types.specs.working.TypedMemories.{AreMemoriesTyped}
 use Rattle.fir_net.specs.declared.node.Node.{Node}
 use Rattle.fir_merge.specs.working.NodeTerms.{Grows, ReadBefore}
 use Rattle.fir_whens.specs.declared.net_role.NetRole.{NetRole}
@@ -29,13 +30,14 @@ use Rattle.fir_whens.specs.declared.net_role.NetRole.TheVariants as code
 use Rattle.fir_whens.specs.working.StandingRoles.{RoleStands}
 use Rattle.fir_flatten.specs.declared.design_net.ModulePart.{ModulePart}
 use Rattle.fir_flatten.specs.declared.offsets.Offsets.{Offsets}
-use Rattle.fir_flatten.specs.working.DesignNets.{ArePartsOf, IsOfNoMemory, IsPartOf}
-use Rattle.fir_flatten.specs.working.MovedNets.{leaf_moved, node_moved, role_moved, saturated}
+use Rattle.fir_flatten.specs.working.DesignNets.{ArePartsOf, IsPartOf}
+use Rattle.fir_flatten.specs.working.MovedNets.{array_moved, leaf_moved, node_moved, offsets_of, role_moved, saturated}
 use Rattle.fir_flatten.specs.working.PutModules.{Given, given_from, no_values, offsets_in, part_of, put_copies, put_module, put_part}
 use Rattle.fir_flatten.proofs.RolesInTurn.{DoesStand, EachStands, MayStand, does_stand_on, may_stand_on, one_stands}
+use Rattle.fir_flatten.proofs.MovedPorts.{port_typed}
 use Rattle.fir_flatten.proofs.MovedTerms.{before_moved, saturated_small}
 use Rattle.fir_flatten.proofs.PutLeaves.{length_given}
-use Rattle.fir_flatten.proofs.StandingRoles.{IsPlain, moved_source, no_source, role_later, role_plain, role_stands, source_stands}
+use Rattle.fir_flatten.proofs.StandingRoles.{moved_source, no_source, role_later, role_stands, source_stands}
 
 -- a copy of a module, where it stands, and the part of the code
 pub record Known (scenes : List Scene) (parts : List ModulePart) (c : LeafCircuit) (k : ModuleCopy) : Type 0 where
@@ -51,6 +53,16 @@ known_copy scenes parts c k are s =
     let found = there parts k.module_number (omega (arith, within, are.count)) in
     record { stands = s; part = found.0; part_is = found.1; is_part = are.each k.module_number s.scene found.0 s.is found.1 }
 
+-- its leaves stand where the code has them
+pub leaf_place : (scenes : List Scene) (parts : List ModulePart) (c : LeafCircuit) → length c.leaves < 2 ^ 64 → (k : ModuleCopy) (n : Known scenes parts c k)
+    (nodes y : ℕ) → y < length (leafed_module n.stands.scene).leaves
+    → leaf_moved (offsets_of k n.part.part.now.port_leaves nodes) y ≡ number (numbers_of (leafed_module n.stands.scene) (copy_seen k)) y
+leaf_place scenes parts c small k n nodes y lt =
+    let numbers = numbers_of (leafed_module n.stands.scene) (copy_seen k) in
+    let within = n.stands.within y lt in
+    ap (λ ports. saturated (number (record { ports = ports; first = k.first; own = k.own }) y)) n.is_part.view.port_leaves
+    ∙ saturated_small (number numbers y) (omega (arith, within, small))
+
 is_source : (r : NetRole) → (r ≡ code.Source) ⊎ (r ≡ code.Source → ⊥)
 is_source code.Source = inl refl
 is_source (code.Driven b) = inr (λ e. cc)
@@ -59,8 +71,8 @@ is_source (code.Register clock reset next) = inr (λ e. cc)
 is_source (code.Reading r) = inr (λ e. cc)
 is_source (code.Pipe r clock under) = inr (λ e. cc)
 
-module _ (scenes : List Scene) (parts : List ModulePart) (c : LeafCircuit) (small : length c.leaves < 2 ^ 64)
-    (no_memory : (x : ℕ) → x < length c.leaves → IsOfNoMemory (role_of c x)) where
+module _ (scenes : List Scene) (parts : List ModulePart) (c : LeafCircuit) (small : length c.leaves < 2 ^ 64) (few : length c.arrays < 2 ^ 64)
+    (typed : (s : Scene) → In scenes s → AreMemoriesTyped (leafed_module s).leaves (leafed_module s).arrays) where
   abbrev whole : LeafModule
   whole = as_module c
 
@@ -90,10 +102,13 @@ module _ (scenes : List Scene) (parts : List ModulePart) (c : LeafCircuit) (smal
     numbers = numbers_of m (copy_seen k)
 
     place_is : (y : ℕ) → y < length m.leaves → leaf_moved at y ≡ number numbers y
-    place_is y lt =
-        let within = n.stands.within y lt in
-        ap (λ ports. saturated (number (record { ports = ports; first = k.first; own = k.own }) y)) n.is_part.view.port_leaves
-        ∙ saturated_small (number numbers y) (omega (arith, within, small))
+    place_is y lt = leaf_place scenes parts c small k n (length v.nodes) y lt
+
+    array_is : (i : ℕ) → i < length m.arrays → array_moved at i ≡ k.array + i
+    array_is i lt = let within = n.stands.arrays_within in saturated_small (k.array + i) (omega (arith, within, few))
+
+    memories : AreMemoriesTyped m.leaves m.arrays
+    memories = typed n.stands.scene (get_in scenes k.module_number n.stands.scene n.stands.is)
 
     held_is : (y : ℕ) → y < length m.leaves → outer (number numbers y) ≡ net_types m y
     held_is y lt = ap number_type (n.stands.held y lt)
@@ -111,11 +126,12 @@ module _ (scenes : List Scene) (parts : List ModulePart) (c : LeafCircuit) (smal
           let gives : role_at m i ≡ leafed.source → ⊥ =
           λ e. other (no_source (net_types m) ns r
           (subst (λ (role : Role). RoleStands (net_types m) ns r (net_role (net_types m) (depth_at m i) m.body i role)) e stands)) in
-          let same : meant y ≡ moved_net_role numbers n.stands.array (net_role_at m i) = n.stands.roles i lt gives in
-          let plain = subst IsPlain same (role_plain outer (depth_at whole y) whole.body y (role_at whole y) (no_memory y (n.stands.within i lt))) in
+          let same : meant y ≡ moved_net_role numbers k.array (net_role_at m i) = n.stands.roles i lt gives in
+          let holds = (leaf_at m.leaves i).holds in
+          let port = port_typed m.leaves m.arrays holds (net_types m) (depth_at m i) m.body i (role_at m i) (memories.roles i lt) in
           subst (λ (q : RoleMeant). RoleStands outer net (role_moved at r) q) (sym same ∙ ap meant (sym (place_is i lt)))
-          (role_stands at v.nodes ns refl room n.is_part.before (net_types m) outer numbers n.stands.array (length m.leaves) place_is held_is r (net_role_at m i)
-          (n.is_part.reads i lt) plain stands)
+          (role_stands at v.nodes ns refl room n.is_part.before (net_types m) outer numbers k.array m.leaves m.arrays place_is array_is held_is holds r
+          (net_role_at m i) (n.is_part.reads i lt) port stands)
 
       each_stands : (y : ℕ) → EachStands outer net (meant y) y at 0 rs
       each_stands y i r at_i e =

@@ -1,5 +1,5 @@
 -- The flat net of a design is that of its circuit, and each source of a circuit is the tree below the main module of its design.
-use Rattle.std.proofs.Common.{◌≡◌, ◌≤◌, List, [], length, subst, arith, length-append}
+use Rattle.std.proofs.Common.{◌≤◌, List, length, subst, arith, length-append}
 use Rattle.fir_ast.specs.Circuits.{CircuitTree}
 use Rattle.fir_meaning.specs.Elaborated.{IsSourceOf}
 use Rattle.fir_meaning.specs.ModuleScenes.{Scene, behind_all_ports}
@@ -12,8 +12,8 @@ use Rattle.fir_meaning.specs.working.LeafedModules.{leafed_module, leaves_in_blo
 use Rattle.fir_net.specs.declared.net.FlatNet.{FlatNet}
 use Rattle.fir_flat.specs.working.FlatLaws.{IsFaithful}
 use Rattle.fir_flatten.specs.working.FlatDesigns.{IsFlatDesign, IsPlainDesign}
-use Rattle.fir_flatten.specs.working.Laws.{DesignsArePlain, IsDesigned, IsTakenDesign}
-use Rattle.fir_flatten.proofs.DesignPorts.{HasPorts, has_ports, no_arrays}
+use Rattle.fir_flatten.specs.working.Laws.{DesignsArePlain, IsDesigned, IsClearDesign}
+use Rattle.fir_flatten.proofs.DesignPorts.{HasPorts, has_ports}
 use Rattle.fir_flatten.proofs.OneScene.{one_list, one_main}
 use Rattle.fir_flatten.proofs.PlainNets.{IsPlainNet, faithful, plain_net}
 
@@ -24,7 +24,7 @@ ports_within s =
     omega (arith, long)
 
 module _ (c : CircuitTree) (scenes : List Scene) (main : Scene) (d : Design) (designed : IsDesigned c scenes main d) where
-  module _ (law : DesignsArePlain) (taken : IsTakenDesign scenes d) (net : FlatNet) (flat : IsFlatDesign (flattened d) (leafed_module main).port_leaves net)
+  module _ (law : DesignsArePlain) (taken : IsClearDesign scenes d) (net : FlatNet) (flat : IsFlatDesign (flattened d) (leafed_module main).port_leaves net)
     where
       plain : IsPlainDesign (flattened d) (leafed_module main).port_leaves
       plain = law c scenes main d designed taken
@@ -32,16 +32,11 @@ module _ (c : CircuitTree) (scenes : List Scene) (main : Scene) (d : Design) (de
       ports : HasPorts (leafed_module main) (flattened d)
       ports = has_ports (views scenes) (leafed_module main) d designed.sound.is (ports_within main)
 
-      none : (flattened d).array_order ≡ []
-      none =
-          no_arrays scenes (λ s i. (taken.taken s i).no_arrays) (leafed_module main) d (taken.taken main designed.among).no_arrays
-          designed.sound.is
-
       pub net_of_design : IsPlainNet (flattened d) (leafed_module main).port_leaves net
-      net_of_design = plain_net (flattened d) (leafed_module main) net plain ports none flat
+      net_of_design = plain_net (flattened d) (leafed_module main) net plain ports flat
 
       pub faithful_to_design : IsFaithful (flattened d) net
-      faithful_to_design = faithful (flattened d) (leafed_module main) net plain ports none flat
+      faithful_to_design = faithful (flattened d) (leafed_module main) net plain ports flat
 
   pub source_is : (t : SourceDesign) → IsSourceOf c t → IsSourceDesignOf scenes main t
   source_is t source =

@@ -6,7 +6,6 @@ use Rattle.fir_ast.specs.Faults.{Fault}
 use Rattle.fir_design.specs.working.CircuitDesigns.{HasSoundDesigns}
 use Rattle.fir_design.specs.working.MeaningLaws.{AreDesigns}
 use Rattle.fir_design.specs.working.SourceLaws.{HasOneTree}
-use Rattle.fir_lack.specs.working.TakenCircuits.{IsTaken}
 use Rattle.fir_leaf.specs.working.ClockFaults.{ShowsClockFault}
 use Rattle.fir_whens.specs.working.ModuleFaults.{AreAllDriven}
 use Rattle.fir_whens.specs.working.ModuleNets.{AreAllTyped}
@@ -19,8 +18,8 @@ use Rattle.fir_meaning.specs.working.NameGroups.{HasNames}
 use Rattle.fir_meaning.specs.working.Scenes.{HasScenes}
 use Rattle.fir_names.specs.working.ModuleOrder.{IsModuleOrder}
 use Rattle.fir_flatten.specs.working.CircuitParts.{number_of_main}
-use Rattle.fir_flatten.specs.working.DesignParts.{HasDesign}
-use Rattle.fir_flatten.specs.working.Laws.{IsDesigned, IsTakenDesign}
+use Rattle.fir_flatten.specs.working.DesignParts.{AreAllMemoriesTyped, HasDesign}
+use Rattle.fir_flatten.specs.working.Laws.{IsDesigned, IsClearDesign}
 use Rattle.fir_flatten.proofs.MainModules.{has_main_scene}
 
 pub has_design : HasSoundDesigns → (c : CircuitTree) (order : List ℕ) → HasNames c → type_faults c ≡ [] → HasScenes c → IsModuleOrder c order → HasDesign c
@@ -66,12 +65,12 @@ module _ (c : CircuitTree) (scenes : List Scene) (main : Scene) (d : Design) (de
     tree = is;
   }
 
-  -- without memories and unclear clocks
-  pub taken_design : AreAllTyped c → AreAllDriven c → IsTaken c → ((f : Fault) → ShowsClockFault (flattened d) f → ⊥) → IsTakenDesign scenes d
-  taken_design typed driven taken clear = record {
+  -- without unclear clocks
+  pub clear_design : AreAllTyped c → AreAllDriven c → AreAllMemoriesTyped c → ((f : Fault) → ShowsClockFault (flattened d) f → ⊥) → IsClearDesign scenes d
+  clear_design typed driven memories clear = record {
     typed = λ s among. let at = number_of scenes s among in typed at.0 s (designed.has.each at.0 s at.1);
     driven = λ s among. let at = number_of scenes s among in driven at.0 s (designed.has.each at.0 s at.1);
-    taken = λ s among. let at = number_of scenes s among in taken at.0 s (designed.has.each at.0 s at.1);
+    memories = λ s among. let at = number_of scenes s among in memories at.0 s (designed.has.each at.0 s at.1);
     clear = clear;
   }
 

@@ -119,11 +119,11 @@ module _ (c : CircuitTree) (m : LeafModule) (is : Items) (t : SourceDesign) (a :
           let within : w.port_leaves + y < length w.leaves = omega (arith, lt, length-drop w.port_leaves w.leaves) in
           let number_is : number n (w.port_leaves + y) ≡ k.own + y = number_own n (w.port_leaves + y) le ∙ omega arith in
           let table = (flattened (made_of m is)).leaves in
-          let role : (leaf_at table (number n z)).role ≡ moved_role n s.array (role_at w z) =
+          let role : (leaf_at table (number n z)).role ≡ moved_role n k.array (role_at w z) =
           ap (λ (l : LeafDeclared). l.role) (s.placed z le within) in
-          let registers : is_register (moved_role n s.array (role_at w z)) ≡ true =
+          let registers : is_register (moved_role n k.array (role_at w z)) ≡ true =
           ap is_register (sym role) ∙ ap (λ v. is_register (leaf_at table v).role) number_is ∙ e in
-          let may = register_there n s.array (role_at w z) registers in
+          let may = register_there n k.array (role_at w z) registers in
           subst (λ v. drives_any v (flattened (made_of m is)).body ≡ drives_any z w.body) number_is
           (driven_same c m is t a (copies_of x (made_of m is)) (copy_seen k) s z within may)
 

@@ -121,7 +121,6 @@ module _ (c : CircuitTree) (m : LeafModule) (is : Items) (t : SourceDesign) (a :
           is = own.is;
           path = h.0.at;
           whens = own.whens;
-          array = own.array;
           among = get_in (all_modules t) i h.0 h.1;
           stands = own.stands;
           ports = own.ports;
@@ -258,7 +257,7 @@ module _ (c : CircuitTree) (m : LeafModule) (is : Items) (t : SourceDesign) (a :
       l : IsTreeLeaf (flattened (made_of m is)) y p
       l = same.each y p get
 
-      moved : role_of g y ≡ moved_role (numbering (leafed_module r.beside.stands.scene) r.copy.first r.copy.own) r.beside.stands.array (role_at (leafed_module r.beside.stands.scene) r.leaf)
+      moved : role_of g y ≡ moved_role (numbering (leafed_module r.beside.stands.scene) r.copy.first r.copy.own) r.copy.array (role_at (leafed_module r.beside.stands.scene) r.leaf)
       moved = ap (role_of g) (sym r.number_is) ∙ role_is c m is t a alike ks (copy_seen r.copy) r.beside.stands r.leaf r.within r.gives
 
       not_sink : (u : SourceRole) → p.leaf.role ≡ u → (u ≡ sources.sink → ⊥) → r.beside.stands.path ≡ p.at
@@ -269,11 +268,11 @@ module _ (c : CircuitTree) (m : LeafModule) (is : Items) (t : SourceDesign) (a :
       by : (u : SourceRole) → p.leaf.role ≡ u → SameRoleBelow g p.at (role_of g y) u
           → IsGivenIn (is_sink_role u) p (record { at = r.beside.stands.path; scene = r.beside.stands.scene })
       by sources.source e h =
-          absurd (moved_no_source (numbering (leafed_module r.beside.stands.scene) r.copy.first r.copy.own) r.beside.stands.array (role_at (leafed_module r.beside.stands.scene) r.leaf)
+          absurd (moved_no_source (numbering (leafed_module r.beside.stands.scene) r.copy.first r.copy.own) r.copy.array (role_at (leafed_module r.beside.stands.scene) r.leaf)
           (sym moved ∙ source_there g p.at (role_of g y) h))
       by sources.sink e h =
           let fine = module_fine c m is t a (record { at = r.beside.stands.path; scene = r.beside.stands.scene }) r.beside.stands.among in
-          let sink = moved_sink (numbering (leafed_module r.beside.stands.scene) r.copy.first r.copy.own) r.beside.stands.array (role_at (leafed_module r.beside.stands.scene) r.leaf) r.gives
+          let sink = moved_sink (numbering (leafed_module r.beside.stands.scene) r.copy.first r.copy.own) r.copy.array (role_at (leafed_module r.beside.stands.scene) r.leaf) r.gives
           (sym moved ∙ sink_by_number g p.at (role_of g y) sources.sink h refl) in
           let may : source_may_drive r.beside.stands.scene (path_in r.beside.stands.scene r.leaf) ≡ true =
           ap (source_may_drive r.beside.stands.scene) (path_of_leaf_is r.beside.stands.scene fine r.leaf) ∙ source_may_drive_is r.beside.stands.scene fine r.leaf r.within ∙ ap role.may_drive sink in (

@@ -11,7 +11,7 @@ use Rattle.fir_meaning.specs.working.Flattened.{flattened}
 use Rattle.fir_meaning.specs.working.LeafModules.{leaf_at}
 use Rattle.fir_meaning.specs.working.LeafedModules.{leafed_module}
 use Rattle.fir_net.specs.declared.net.FlatNet.{FlatNet}
-use Rattle.fir_net.specs.working.IsWritable.{HasConstantInits, IsWritable}
+use Rattle.fir_net.specs.working.IsWritable.{HasConstantInits, HasOneClocks, IsWritable}
 use Rattle.fir_loop.specs.working.IsLoop.{IsLoop}
 use Rattle.fir_flatten.specs.working.FlattensTo.{FlattensTo}
 use Rattle.fir_flatten.specs.working.Laws.{DesignsFlatten}
@@ -22,13 +22,13 @@ use Rattle.fir_flatten.proofs.FlatWords.{flat_words}
 use Rattle.fir_flatten.proofs.LeafRoles.{shaped_writable}
 
 module _ (laws : LawsBelow) (c : CircuitTree) (scenes : List Scene) (main : Scene) (d : Design) (net : FlatNet) (given : IsGiven c scenes main d net) where
-  writable : HasConstantInits net → IsWritable net
-  writable inits = record {
+  writable : HasConstantInits net → HasOneClocks net → IsWritable net
+  writable inits clocks = record {
     leaves = λ k l at.
         shaped_writable l.role (leaf_at (flattened d).leaves k).holds (leaf_at (flattened d).leaves k).role
         ((net_is laws c scenes main d net given).each k l at).shaped;
     inits = inits;
-    no_arrays = given.flat.arrays;
+    clocks = clocks;
   }
 
   -- where the net has no closed walk, no tree below the main module has one
@@ -38,8 +38,8 @@ module _ (laws : LawsBelow) (c : CircuitTree) (scenes : List Scene) (main : Scen
       let both = designs_beside c scenes main d given.designed t (source_is c scenes main d given.designed t shown.is_source) in
       laws.hidden (flattened d) net given.flat.whole (net_is laws c scenes main d net given).flat none f ((laws.loops c d t f both).1 shown.shows)
 
-  flattens : net.name ≡ c.named.name → HasConstantInits net → FlattensTo c net
-  flattens named inits =
+  flattens : net.name ≡ c.named.name → HasConstantInits net → HasOneClocks net → FlattensTo c net
+  flattens named inits clocks =
       let own = given.designed in
       let tree = tree_of c scenes main d own laws.trees in
       let both = designs_beside c scenes main d own tree.0 tree.1 in
@@ -48,7 +48,7 @@ module _ (laws : LawsBelow) (c : CircuitTree) (scenes : List Scene) (main : Scen
       record {
         whole = given.flat.whole;
         words = λ words. flat_words laws.follow c d tree.0 both (leafed_module main).port_leaves net is words named;
-        writable = writable inits;
+        writable = writable inits clocks;
         named = named;
         source = tree.0;
         is_source = source;
@@ -64,5 +64,5 @@ module _ (laws : LawsBelow) (c : CircuitTree) (scenes : List Scene) (main : Scen
       }
 
 pub designs_flatten : LawsBelow → DesignsFlatten
-designs_flatten laws c scenes main d net designed taken flat named inits =
-    flattens laws c scenes main d net (record { designed = designed; taken = taken; flat = flat }) named inits
+designs_flatten laws c scenes main d net designed taken flat named inits clocks =
+    flattens laws c scenes main d net (record { designed = designed; taken = taken; flat = flat }) named inits clocks

@@ -1,16 +1,19 @@
--- The names of a flat net can be written where those of its circuit can: its leaves have the paths of the leaves of the tree.
-use Rattle.std.proofs.Common.{◌≡◌, ℕ, [], ◌++◌, Some, slice_get, sym, ap₂, ◌∙◌, subst}
+-- The names of a flat net can be written where those of its circuit can: its leaves and arrays have the paths of those of the tree.
+use Rattle.std.proofs.Common.{◌≡◌, ℕ, [], ◌++◌, Some, slice_get, sym, ap, ap₂, ◌∙◌, subst, arith}
+use Rattle.std.proofs.lemmas.Option.{get_or_from_slice_get, slice_get_within}
 use Rattle.std.specs.Prelude.{IsTrue}
 use Rattle.ver_words.specs.Names.{is_word}
 use Rattle.fir_base.proofs.Each.{all_from}
-use Rattle.fir_base.proofs.Elements.{number_of}
+use Rattle.fir_base.proofs.Elements.{get_in, number_of, there}
 use Rattle.fir_ast.specs.Circuits.{CircuitTree}
 use Rattle.fir_meaning.specs.LeafPaths.{LeafPath}
+use Rattle.fir_meaning.specs.SourceCircuits.{all_arrays, array_path}
 use Rattle.fir_meaning.specs.SourceDesigns.{SourceDesign}
 use Rattle.fir_meaning.specs.working.Designs.{Design}
 use Rattle.fir_meaning.specs.working.Flattened.{flattened}
-use Rattle.fir_meaning.specs.working.LeafModules.{no_leaf}
+use Rattle.fir_meaning.specs.working.LeafModules.{LeafArray, no_leaf}
 use Rattle.fir_meaning.specs.working.LeafedModules.{module_leaves}
+use Rattle.fir_leaf.specs.working.DesignStates.{array_at, no_array}
 use Rattle.fir_leaf.specs.working.SoundDesigns.{circuit_path}
 use Rattle.fir_leaf.specs.working.TableLaws.{LeavesFollowTypes}
 use Rattle.fir_leaf.proofs.OncePaths.{at_in}
@@ -20,11 +23,13 @@ use Rattle.fir_design.proofs.NumberedScenes.{scene_numbered}
 use Rattle.fir_design.proofs.SourceMeanings.{in_step}
 use Rattle.fir_design_faults.proofs.DesignScenes.{design_scenes}
 use Rattle.fir_net.specs.Paths.{base_name}
+use Rattle.fir_net.specs.declared.array.Array.{Array}
 use Rattle.fir_net.specs.declared.leaf.Leaf.{Leaf}
 use Rattle.fir_net.specs.declared.net.FlatNet.{FlatNet}
-use Rattle.fir_net.specs.working.WordNames.{AreWordArrays, HasWordNames}
+use Rattle.fir_net.specs.working.WordNames.{HasWordNames}
 use Rattle.fir_flat.proofs.FlatLeaves.{leaf_inside}
 use Rattle.fir_flatten.specs.working.Words.{HasWords}
+use Rattle.fir_flatten.proofs.ArrayWords.{array_words}
 use Rattle.fir_flatten.proofs.InstanceWords.{module_words}
 use Rattle.fir_flatten.proofs.LeafWords.{leaf_words_of}
 use Rattle.fir_flatten.proofs.LeavesOfModules.{leaf_of_module}
@@ -50,9 +55,24 @@ module _ (follow : LeavesFollowTypes) (c : CircuitTree) (d : Design) (t : Source
   leaf_word x l at =
       subst (λ p. IsTrue (is_word (base_name p))) (sym (is.named.paths x l at)) (path_word (circuit_path (flattened d) x) (path_is_word x l at))
 
+  -- so it is with the arrays
+  array_word : (k : ℕ) (x : Array) → slice_get net.arrays k ≡ Some x → IsTrue (is_word (base_name x.path))
+  array_word k x at =
+      let g = flattened d in
+      let step = in_step c d t a in
+      let inside = slice_get_within net.arrays k x at in
+      let m = there g.arrays k (omega (arith, inside, is.flat.array_count)) in
+      let p = there (all_arrays t) k (omega (arith, inside, is.flat.array_count, step.many_arrays)) in
+      let held : array_at g.arrays k ≡ m.0 = get_or_from_slice_get g.arrays k m.0 no_array m.1 in
+      let path : m.0.path ≡ array_path p.0 = ap (λ (z : LeafArray). z.path) (sym held) ∙ (step.each_array k p.0 p.1).path in
+      let own : IsWordPath (array_path p.0) =
+      array_words c words a.scenes a.are t a.main a.among a.tree [] tt p.0 (get_in (all_arrays t) k p.0 p.1) in
+      subst (λ q. IsTrue (is_word (base_name q))) (sym (is.array_paths k x m.0 at m.1)) (path_word m.0.path (subst IsWordPath (sym path) own))
+
   pub flat_words : net.name ≡ c.named.name → HasWordNames net
   flat_words named = record {
     word = subst (λ name. IsTrue (is_word name)) (sym named) words.own;
     leaves = all_from (λ l. IsTrue (is_word (base_name l.path))) net.leaves (λ l among. let n = number_of net.leaves l among in leaf_word n.0 l n.1);
-    arrays = subst AreWordArrays (sym is.flat.arrays) tt;
+    arrays =
+        all_from (λ x. IsTrue (is_word (base_name x.path))) net.arrays (λ x among. let n = number_of net.arrays x among in array_word n.0 x n.1);
   }

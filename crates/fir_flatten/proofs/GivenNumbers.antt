@@ -5,7 +5,7 @@ use Rattle.std.proofs.lemmas.Bool.Decides.{eqb_tells}
 use Rattle.fir_meaning.specs.working.Flattened as over
 use Rattle.fir_meaning.specs.LeafTypes as held
 use Rattle.fir_meaning.specs.LeafTypes.{LeafType, a_clock, number, has_bits}
-use Rattle.fir_meaning.specs.working.LeafModules.{Role, computed, is_sink, register, sink, source}
+use Rattle.fir_meaning.specs.working.LeafModules.{Role, computed, is_sink, pipe, reading, register, sink, source}
 use Rattle.fir_net.specs.declared.leaf.Role as net_leaf
 use Rattle.fir_net.specs.declared.leaf.Role.TheVariants as role
 use Rattle.fir_net.specs.declared.reads.Read.{Read}
@@ -46,6 +46,8 @@ module _ (x : net_leaf.Role) (w k : ℕ) where
   input_given (number t) (computed d) is e = ap (λ y. input_number y w k) is.1
   input_given a_clock (computed d) is e = ap (λ y. input_number y w k) is.1
   input_given (number t) (register clock reset) is e = ap (λ y. input_number y w k) is.1
+  input_given (number t) (reading r) is e = ap (λ y. input_number y w k) is.1
+  input_given (number t) (pipe r clock under) is e = ap (λ y. input_number y w k) is.1
   input_given h r is e = absurd is
 
   pub clock_given : (h : LeafType) (r : Role) → IsShaped x h r → clock_number x w k ≡ given (over.is_input r && held.is_clock h) k
@@ -56,6 +58,8 @@ module _ (x : net_leaf.Role) (w k : ℕ) where
   clock_given (number t) (computed d) is = ap (λ y. clock_number y w k) is.1
   clock_given a_clock (computed d) is = ap (λ y. clock_number y w k) is.1
   clock_given (number t) (register clock reset) is = ap (λ y. clock_number y w k) is.1
+  clock_given (number t) (reading r) is = ap (λ y. clock_number y w k) is.1
+  clock_given (number t) (pipe r clock under) is = ap (λ y. clock_number y w k) is.1
   clock_given h r is = absurd is
 
   -- of a port
@@ -69,6 +73,8 @@ module _ (x : net_leaf.Role) (w k : ℕ) where
   output_given (number t) (computed d) is e port = ap (λ y. output_number y w k) is.1
   output_given a_clock (computed d) is e port = ap (λ y. output_number y w k) is.1
   output_given (number t) (register clock reset) is e port = ap (λ y. output_number y w k) is.1
+  output_given (number t) (reading r) is e port = ap (λ y. output_number y w k) is.1
+  output_given (number t) (pipe r clock under) is e port = ap (λ y. output_number y w k) is.1
   output_given h r is e port = absurd is
 
   pub clock_output_given : (h : LeafType) (r : Role) → IsShaped x h r → is_port x ≡ true
@@ -80,6 +86,8 @@ module _ (x : net_leaf.Role) (w k : ℕ) where
   clock_output_given (number t) (computed d) is port = ap (λ y. clock_output_number y w k) is.1
   clock_output_given a_clock (computed d) is port = ap (λ y. clock_output_number y w k) is.1
   clock_output_given (number t) (register clock reset) is port = ap (λ y. clock_output_number y w k) is.1
+  clock_output_given (number t) (reading r) is port = ap (λ y. clock_output_number y w k) is.1
+  clock_output_given (number t) (pipe r clock under) is port = ap (λ y. clock_output_number y w k) is.1
   clock_output_given h r is port = absurd is
 
   -- what is no port is in no list of ports

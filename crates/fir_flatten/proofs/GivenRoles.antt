@@ -1,17 +1,20 @@
 -- What gives the leaves of a plain design their values in its net: inputs; for numbers reads that stand for whole terms, which may drive the leaf; and for clocks a
 -- clock leaf that is read as it is, or no clock.
-use Rattle.std.proofs.Common.{◌≡◌, ℕ, List, [], ◌∷◌, length, Bool, Option, Some, None, option_map, refl, sym, ap, ◌∙◌}
+use Rattle.std.proofs.Common.{◌≡◌, ℕ, List, [], ◌∷◌, length, Bool, Option, Some, None, option_map, refl, sym, ap, ◌∙◌, subst}
 use Rattle.fir_base.proofs.Elements.{there}
 use Rattle.fir_bits.specs.declared.types.NumTy.{NumTy}
 use Rattle.fir_bits.specs.declared.values.Num.{Num}
 use Rattle.fir_leaf_circuit.specs.declared.leaf.LeafType.{LeafType as TypeOfCode}
 use Rattle.fir_leaf_circuit.specs.declared.leaf.LeafType.TheVariants.{Clock, Number}
-use Rattle.fir_leaf_circuit.specs.working.Seen.{type_seen}
+use Rattle.fir_leaf_circuit.specs.declared.leaf.ReadingRole.{ReadingRole}
+use Rattle.fir_leaf_circuit.specs.working.Seen.{reading_seen, type_seen}
 use Rattle.fir_leaf_types.specs.working.TypedModules.{IsRoleTyped, held_in}
 use Rattle.fir_meaning.specs.working.LeafBlocks.{LeafBlock}
 use Rattle.fir_meaning.specs.working.LeafCircuits.{LeafCircuit}
-use Rattle.fir_meaning.specs.working.LeafModules.{LeafModule, LeafReset, Role, computed, pipe, reading, register, sink, source}
-use Rattle.fir_lack.specs.working.TakenCircuits.{IsTakenRole}
+use Rattle.fir_ast.specs.declared.statements.ReadUnderWrite.{ReadUnderWrite}
+use Rattle.fir_meaning.specs.LeafTypes.{a_clock, number}
+use Rattle.fir_meaning.specs.working.LeafModules.{LeafModule, LeafReset, Reading, Role, computed, pipe, reading, register, sink, source}
+use Rattle.fir_memory_types.specs.working.TypedMemories.{AreMemoriesTyped, IsClockTyped, IsMemoryRoleTyped, IsReadingTyped}
 use Rattle.fir_connect.specs.working.CircuitModules.{as_module}
 use Rattle.fir_connect.specs.working.Lowered.{one_bit}
 use Rattle.fir_connect.specs.working.NetRoles.{NetReset as ResetMeant, NetRole as RoleMeant, net_reset, net_role, net_types}
@@ -33,6 +36,19 @@ use Rattle.fir_whens.specs.declared.net_role.NetRole.TheVariants as code
 use Rattle.fir_whens.specs.working.StandingRoles.{ResetStands, RoleStands}
 use Rattle.fir_flatten.specs.working.FlatDesigns.{IsClear, IsClockLeaf, IsClockTerm}
 use Rattle.fir_flatten.specs.working.FlatRoles.{clock_named}
+
+-- what a memory's port reads, of words of a type
+pub record Reads (c : LeafCircuit) (u : NumTy) (e : ReadingRole) (r : Reading) : Type 0 where
+  pub alike : reading_seen e ≡ r
+  pub typed : IsReadingTyped c.leaves c.arrays (number u) (reading_seen e)
+
+-- what it has read at the last edge of a clock
+pub record ReadsLate (c : LeafCircuit) (u : NumTy) (e : ReadingRole) (clock : ℕ) (under : ReadUnderWrite) (r : Reading) (k : ℕ) (v : ReadUnderWrite)
+    : Type 0 where
+  pub reads : Reads c u e r
+  pub same_clock : clock ≡ k
+  pub moment : under ≡ v
+  pub typed : IsClockTyped c.leaves clock
 
 -- by when a bound stands for a term
 module _ (c : LeafCircuit) (Stands : Bound → NetTerm → Type 0) where
@@ -77,6 +93,8 @@ module _ (c : LeafCircuit) (Stands : Bound → NetTerm → Type 0) where
   IsGiven (Number u) (code.Driven b) (meant.driven t) = Drives u b t
   IsGiven (Number u) (code.Computed b) (meant.computed t) = Drives u b t
   IsGiven (Number u) (code.Register clock reset next) (meant.register k q t) = IsClockOf clock k × MayReset u reset q × Drives u next t
+  IsGiven (Number u) (code.Reading e) (meant.reading r) = Reads c u e r
+  IsGiven (Number u) (code.Pipe e clock under) (meant.pipe r k v) = ReadsLate c u e clock under r k v
   IsGiven _ _ _ = ⊥
 
 -- a node stands for no leaf
@@ -157,25 +175,45 @@ module _ (c : LeafCircuit) (nodes : List Node) (before : ReadBefore 0 nodes) whe
   source_given holds (code.Reading e) h = absurd h
   source_given holds (code.Pipe e clock under) h = absurd h
 
+  -- a memory's words are numbers
+  no_clock : {A : Type 0} → (r : Reading) → AreMemoriesTyped c.leaves c.arrays → IsReadingTyped c.leaves c.arrays a_clock r → A
+  no_clock r memories typed =
+      let own = memories.arrays_typed r.array typed.array typed.is_there in
+      let is : number own.data_type ≡ a_clock = sym own.is ∙ typed.holds in
+      cc
+
+  reads_given : (u : NumTy) (e : ReadingRole) (r : Reading) → reading_seen e ≡ r → IsReadingTyped c.leaves c.arrays (number u) r → Reads c u e r
+  reads_given u e r alike typed = record { alike = alike; typed = subst (IsReadingTyped c.leaves c.arrays (number u)) (sym alike) typed }
+
   module _ (depth : ℕ) (b : LeafBlock) (x : ℕ) where
     abbrev role_meant : Role → RoleMeant
     role_meant q = net_role (net_types (as_module c)) depth b x q
 
-    pub role_given : (holds : TypeOfCode) (q : Role) (r : NetRole) → IsTakenRole q → IsRoleTyped (held_in (as_module c)) (type_seen holds) q
+    pub role_given : (holds : TypeOfCode) (q : Role) (r : NetRole) → AreMemoriesTyped c.leaves c.arrays
+        → IsMemoryRoleTyped c.leaves c.arrays (type_seen holds) q → IsRoleTyped (held_in (as_module c)) (type_seen holds) q
         → IsClear c (type_seen holds) (role_meant q) → RoleStands (net_types (as_module c)) nodes r (role_meant q)
         → IsWholeWhere (as_module c) holds (role_meant q) → IsGiven c stands holds r (role_meant q)
-    role_given holds source r taken typed clear h whole = source_given holds r h
-    role_given Clock sink (code.Driven d) taken typed clear h whole = clock_given _ d clear h
-    role_given Clock sink r taken typed clear h whole = absurd h
-    role_given Clock (computed t) (code.Computed d) taken typed clear h whole = clock_given _ d clear h
-    role_given Clock (computed t) r taken typed clear h whole = absurd h
-    role_given Clock (register clock reset) r taken typed clear h whole = let none = typed.0.1 in cc
-    role_given (Number u) sink (code.Driven d) taken typed clear h whole = record { stands = h; may = whole }
-    role_given (Number u) sink r taken typed clear h whole = absurd h
-    role_given (Number u) (computed t) (code.Computed d) taken typed clear h whole = record { stands = h; may = whole }
-    role_given (Number u) (computed t) r taken typed clear h whole = absurd h
-    role_given (Number u) (register clock reset) (code.Register k s d) taken typed clear h whole =
+    role_given holds source r memories own typed clear h whole = source_given holds r h
+    role_given Clock sink (code.Driven d) memories own typed clear h whole = clock_given _ d clear h
+    role_given Clock sink r memories own typed clear h whole = absurd h
+    role_given Clock (computed t) (code.Computed d) memories own typed clear h whole = clock_given _ d clear h
+    role_given Clock (computed t) r memories own typed clear h whole = absurd h
+    role_given Clock (register clock reset) r memories own typed clear h whole = let none = typed.0.1 in cc
+    role_given (Number u) sink (code.Driven d) memories own typed clear h whole = record { stands = h; may = whole }
+    role_given (Number u) sink r memories own typed clear h whole = absurd h
+    role_given (Number u) (computed t) (code.Computed d) memories own typed clear h whole = record { stands = h; may = whole }
+    role_given (Number u) (computed t) r memories own typed clear h whole = absurd h
+    role_given (Number u) (register clock reset) (code.Register k s d) memories own typed clear h whole =
         (register_clock _ k clear h.0, reset_given u reset s h.1 whole.0, record { stands = h.2; may = whole.1 })
-    role_given (Number u) (register clock reset) r taken typed clear h whole = absurd h
-    role_given holds (reading e) r taken typed clear h whole = absurd taken
-    role_given holds (pipe e clock under) r taken typed clear h whole = absurd taken
+    role_given (Number u) (register clock reset) r memories own typed clear h whole = absurd h
+    role_given Clock (reading e) r memories own typed clear h whole = no_clock e memories own
+    role_given Clock (pipe e clock under) r memories own typed clear h whole = no_clock e memories own.0
+    role_given (Number u) (reading e) (code.Reading d) memories own typed clear h whole = reads_given u d e h own
+    role_given (Number u) (reading e) r memories own typed clear h whole = absurd h
+    role_given (Number u) (pipe e clock under) (code.Pipe d k v) memories own typed clear h whole = record {
+      reads = reads_given u d e h.0 own.0;
+      same_clock = h.1;
+      moment = h.2;
+      typed = subst (IsClockTyped c.leaves) (sym h.1) own.1;
+    }
+    role_given (Number u) (pipe e clock under) r memories own typed clear h whole = absurd h

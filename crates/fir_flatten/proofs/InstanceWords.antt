@@ -18,7 +18,7 @@ use Rattle.fir_design_faults.proofs.DesignScenes.{scene_in}
 use Rattle.fir_flatten.specs.working.Words.{BlockHasWords, HasWords, ModuleHasWords, StatementHasWords}
 use Rattle.fir_flatten.proofs.WordTexts.{AreWordSteps, IsWordStep}
 
-abbrev IsCalled : InstanceOf → Type 0
+abbrev pub IsCalled : InstanceOf → Type 0
 IsCalled i = IsTrue (is_word i.named.name)
 
 mutual
@@ -39,7 +39,7 @@ mutual
   block_called ((then) x b) h = all_joined IsCalled (instances_of x) (instances_of_block b) (statement_called x h.0) (block_called b h.1)
 
 module _ (c : CircuitTree) (words : HasWords c) (scenes : List Scene) (are : AreScenes c scenes) where
-  called : (s : Scene) → In scenes s → AllByRecursion IsCalled (instances_of_block s.own.inside.body)
+  pub called : (s : Scene) → In scenes s → AllByRecursion IsCalled (instances_of_block s.own.inside.body)
   called s i = block_called s.own.inside.body (all_at ModuleHasWords c.modules words.modules s.own.inside (scene_own c scenes are s i).inside).body
 
   mutual

@@ -26,7 +26,7 @@ use Rattle.fir_flatten.proofs.TypeWords.{LeafHasWords, leaf_words}
 use Rattle.fir_flatten.proofs.ExpressionWords.{KnownHasWords}
 use Rattle.fir_flatten.proofs.ScopeWords.{scope_words}
 
-words_of_data : (o : Option DataType) → IfSome o TypeHasWords → AllByRecursion LeafHasWords (leaves_of_data o)
+pub words_of_data : (o : Option DataType) → IfSome o TypeHasWords → AllByRecursion LeafHasWords (leaves_of_data o)
 words_of_data None h = tt
 words_of_data (Some t) h = leaf_words t h
 

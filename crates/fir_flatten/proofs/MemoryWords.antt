@@ -50,7 +50,7 @@ ports_words p t words (x ∷ parts) h k =
     (ports_words p t words parts h k.1)
 
 -- the data
-data_words : (parts : List MemoryPart) → AllByRecursion PartHasWords parts → IfSome (first_one (flat_map data_of_part parts)) TypeHasWords
+pub data_words : (parts : List MemoryPart) → AllByRecursion PartHasWords parts → IfSome (first_one (flat_map data_of_part parts)) TypeHasWords
 data_words [] h = tt
 data_words (data_type q begins t ∷ parts) h = h.0
 data_words (x ∷ parts) h = data_words parts h.1

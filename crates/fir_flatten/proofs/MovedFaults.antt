@@ -170,7 +170,7 @@ module _ (c : CircuitTree) (m : LeafModule) (is : Items) (t : SourceDesign) (a :
   -- what the module gives, as it stands in the circuit
   module _ (gives : role_at (leafed_module s.scene) z ≡ role.source → ⊥) where
     pub role_is : role_of (flattened (made_of m is)) (over.number (numbering (leafed_module s.scene) k.first k.own) z)
-        ≡ moved_role (numbering (leafed_module s.scene) k.first k.own) s.array (role_at (leafed_module s.scene) z)
+        ≡ moved_role (numbering (leafed_module s.scene) k.first k.own) k.array (role_at (leafed_module s.scene) z)
     role_is = copy_role a.scenes g.leaves (all_modules t) ks k s z lt gives
 
     pub place_is : place_of_leaf (flattened (made_of m is)) (over.number (numbering (leafed_module s.scene) k.first k.own) z)
@@ -192,7 +192,7 @@ module _ (c : CircuitTree) (m : LeafModule) (is : Items) (t : SourceDesign) (a :
       where
         of_port : (role_at w z ≡ role.source) ⊎ (role_at w z ≡ role.sink) → w.port_leaves ≤ z
         of_port (inl e) = absurd (gives e)
-        of_port (inr e) = absurd (no_sink (role_is ∙ ap (moved_role n s.array) e))
+        of_port (inr e) = absurd (no_sink (role_is ∙ ap (moved_role n k.array) e))
 
         by : (b : Bool) → nat_lt z w.port_leaves ≡ b → w.port_leaves ≤ z
         by true e = of_port (port_role_is s.scene z (ltb-true z w.port_leaves e))
@@ -206,7 +206,7 @@ module _ (c : CircuitTree) (m : LeafModule) (is : Items) (t : SourceDesign) (a :
         let l = lives_same e in
         ap (flat_map live_places) l.1 ∙ lives_places l.0 (lives_of own z)
 
-    places_by : (h : LeafType) (r : Role) → role_at w z ≡ r → clock_places g y h (moved_role n s.array r) ≡ clock_places own z h r
+    places_by : (h : LeafType) (r : Role) → role_at w z ≡ r → clock_places g y h (moved_role n k.array r) ≡ clock_places own z h r
     places_by h role.source e = absurd (gives e)
     places_by a_clock role.sink e = sink_places e
     places_by (number u) role.sink e = refl
@@ -229,7 +229,7 @@ module _ (c : CircuitTree) (m : LeafModule) (is : Items) (t : SourceDesign) (a :
         let l = lives_same h.is_sink in
         inr (record {
           is_clock = holds_is ∙ h.is_clock;
-          is_sink = role_is ∙ ap (moved_role n s.array) h.is_sink;
+          is_sink = role_is ∙ ap (moved_role n k.array) h.is_sink;
           none_picks = sink_places h.is_sink ∙ h.none_picks;
           first = moved_live l.0 h.first;
           second = moved_live l.0 h.second;
@@ -244,7 +244,7 @@ module _ (c : CircuitTree) (m : LeafModule) (is : Items) (t : SourceDesign) (a :
         → ShowsPlaces (module_circuit (leafed_module s.scene)) z one other
     to_module one other (inl h) = inl (record { first = subst (IsFirstPlace one) places_same h.first; twice = h.twice })
     to_module one other (inr h) =
-        let sink = moved_sink n s.array (role_at w z) gives (sym role_is ∙ h.is_sink) in
+        let sink = moved_sink n k.array (role_at w z) gives (sym role_is ∙ h.is_sink) in
         let l = lives_same sink in
         let ls = first_two l.0 (lives_of own z) h.first h.second h.rest (sym l.1 ∙ h.lives) in
         inr (record {
@@ -297,7 +297,7 @@ module _ (c : CircuitTree) (m : LeafModule) (is : Items) (t : SourceDesign) (a :
     told_by one other shows a_clock e = clock_told
     told_by one other shows (number u) e =
         component_told (inner_is (λ sink.
-        shown_register own z u one other shows e (moved_sink n s.array (role_at w z) gives (sym role_is ∙ sink))))
+        shown_register own z u one other shows e (moved_sink n k.array (role_at w z) gives (sym role_is ∙ sink))))
 
     -- and it is told alike
     pub fault_is : (one other : Place) → ShowsPlaces (module_circuit (leafed_module s.scene)) z one other

@@ -68,6 +68,8 @@ module _ (c : LeafCircuit) where
     reads_whole Clock (code.Computed b) (meant.computed t) is = (clock_whole b t is, tt)
     reads_whole (Number u) (code.Driven b) (meant.driven t) is = (drive_whole u b t is, tt)
     reads_whole (Number u) (code.Computed b) (meant.computed t) is = (drive_whole u b t is, tt)
+    reads_whole (Number u) (code.Reading e) (meant.reading r) is = tt
+    reads_whole (Number u) (code.Pipe e clock under) (meant.pipe r k v) is = tt
     reads_whole (Number u) (code.Register clock None next) (meant.register k None t) is = (drive_whole u next t is.2, tt)
     reads_whole (Number u) (code.Register clock (Some s) next) (meant.register k (Some p) t) is = (
       read_whole s.condition.read p.condition is.1.condition.term is.1.whole,
@@ -124,6 +126,8 @@ module _ (c : LeafCircuit) where
       role_moved Clock (code.Computed b) (meant.computed t) is stays = clock_moved b t is stays.0
       role_moved (Number u) (code.Driven b) (meant.driven t) is stays = drive_moved u b t is stays.0
       role_moved (Number u) (code.Computed b) (meant.computed t) is stays = drive_moved u b t is stays.0
+      role_moved (Number u) (code.Reading e) (meant.reading r) is stays = is
+      role_moved (Number u) (code.Pipe e clock under) (meant.pipe r k v) is stays = is
       role_moved (Number u) (code.Register clock None next) (meant.register k None t) is stays = (own_clock clock k is.0, tt, drive_moved u next t is.2 stays.0)
       role_moved (Number u) (code.Register clock (Some s) next) (meant.register k (Some p) t) is stays =
           (own_clock clock k is.0, reset_moved u s p is.1 stays.0 stays.1.0, drive_moved u next t is.2 stays.1.1.0)

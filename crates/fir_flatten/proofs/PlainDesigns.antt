@@ -7,20 +7,21 @@ use Rattle.fir_meaning.specs.SourceDesigns.{SourceDesign}
 use Rattle.fir_meaning.specs.working.Designs.{Design, Items, made_of}
 use Rattle.fir_meaning.specs.working.Flattened.{flattened}
 use Rattle.fir_meaning.specs.working.LeafModules.{LeafModule}
-use Rattle.fir_leaf.specs.working.StateLaws.{LeafedPortsShowNone, WordsAreAll, WordsShowState, WordsStandOnce}
+use Rattle.fir_leaf.specs.working.StateLaws.{ArraysAreAll, ArraysHaveBits, ArraysStandOnce, LeafedPortsShowNone, WordsAreAll, WordsShowState, WordsStandOnce}
 use Rattle.fir_design.specs.working.MeaningLaws.{AreDesigns}
 use Rattle.fir_design.specs.working.SourceLaws.{HasOneTree}
 use Rattle.fir_copies.specs.working.CopyLaws.{HaveWidths}
-use Rattle.fir_copies.specs.working.WholeDesigns.{DesignsAreDriven, DesignsAreTyped}
+use Rattle.fir_copies.specs.working.WholeDesigns.{DesignsAreDriven, DesignsAreTyped, DesignsHaveTypedMemories}
 use Rattle.fir_flatten.specs.working.FlatDesigns.{IsPlainDesign}
-use Rattle.fir_flatten.specs.working.Laws.{DesignsArePlain, IsDesigned, IsTakenDesign}
+use Rattle.fir_flatten.specs.working.Laws.{DesignsArePlain, IsDesigned, IsClearDesign}
 use Rattle.fir_flatten.proofs.ClearLeaves.{leaves_clear}
-use Rattle.fir_flatten.proofs.PlainRoles.{inner_role, port_role, roles_behind, roles_taken, room, whole_within}
+use Rattle.fir_flatten.proofs.PlainRoles.{inner_role, port_role, roles_behind, room, whole_within}
 
 module _ (has_tree : HasOneTree) (are_typed : DesignsAreTyped) (are_driven : DesignsAreDriven) (words_show : WordsShowState) (words_all : WordsAreAll)
-    (words_once : WordsStandOnce) (ports_show_none : LeafedPortsShowNone) where
+    (words_once : WordsStandOnce) (ports_show_none : LeafedPortsShowNone) (have_memories : DesignsHaveTypedMemories) (arrays_all : ArraysAreAll)
+    (arrays_once : ArraysStandOnce) (arrays_have_bits : ArraysHaveBits) where
   module _ (c : CircuitTree) (m : LeafModule) (is : Items) (t : SourceDesign) (a : AreDesigns c (made_of m is) t) (widths : HaveWidths c a.scenes)
-      (taken : IsTakenDesign a.scenes (made_of m is)) (x : ℕ) (at : slice_get a.scenes x ≡ Some a.main) where
+      (taken : IsClearDesign a.scenes (made_of m is)) (x : ℕ) (at : slice_get a.scenes x ≡ Some a.main) where
     plain : IsPlainDesign (flattened (made_of m is)) m.port_leaves
     plain =
         let d = made_of m is in
@@ -32,7 +33,7 @@ module _ (has_tree : HasOneTree) (are_typed : DesignsAreTyped) (are_driven : Des
           typed = typed;
           within = within;
           driven = driven;
-          taken = roles_taken c m is t a x at taken.taken;
+          memories = have_memories c d t a widths taken.memories;
           clear = leaves_clear (flattened (made_of m is)) taken.clear typed within driven (roles_behind c m is t a x at);
           room = room c m is t a x at;
           port = port_role c m is t a x at;
@@ -43,6 +44,9 @@ module _ (has_tree : HasOneTree) (are_typed : DesignsAreTyped) (are_driven : Des
           all_words = λ y lt w.
               number_of (flattened (made_of m is)).words y (words_all (made_of m is) ports.0 a.design.named y lt w.0 w.1);
           once = words_once d ports.1;
+          arrays = λ n y e. arrays_have_bits d y (get_in (flattened (made_of m is)).array_order n y e);
+          all_arrays = λ y h. number_of (flattened (made_of m is)).array_order y (arrays_all (made_of m is) a.design.named y h.within h.bits);
+          arrays_once = arrays_once d;
         }
 
   has_widths : (c : CircuitTree) (scenes : List Scene) (main : Scene) (d : Design) → IsDesigned c scenes main d → HaveWidths c scenes

@@ -1,14 +1,15 @@
 -- The flat net of a plain circuit: leaf by leaf what its roles say, with the same ports and state.
-use Rattle.std.proofs.Common.{◌≡◌, ℕ, ◌<◌, ◌≤◌, [], slice_get, true, false, ◌&&◌, Some, sym, ap, ◌∙◌, arith}
-use Rattle.std.proofs.lemmas.Option.{slice_get_within}
+use Rattle.std.proofs.Common.{◌≡◌, ℕ, ◌<◌, ◌≤◌, slice_get, true, false, ◌&&◌, Some, sym, ap, ◌∙◌}
 use Rattle.fir_meaning.specs.LeafTypes.{is_clock, LeafType, a_clock, number, has_bits}
+use Rattle.fir_meaning.specs.LeafPaths.{path_text}
 use Rattle.fir_meaning.specs.working.Flattened.{is_input}
 use Rattle.fir_meaning.specs.working.LeafCircuits.{LeafCircuit, depth_of, role_of}
-use Rattle.fir_meaning.specs.working.LeafModules.{LeafDeclared, LeafModule, is_sink, leaf_at}
+use Rattle.fir_meaning.specs.working.LeafModules.{LeafArray, LeafDeclared, LeafModule, is_sink, leaf_at}
 use Rattle.fir_meaning.specs.working.StateWalks.{numbers_where}
 use Rattle.fir_leaf_types.specs.working.TypedModules.{held_in}
 use Rattle.fir_connect.specs.working.CircuitModules.{as_module}
 use Rattle.fir_connect.specs.working.NetRoles.{net_types}
+use Rattle.fir_net.specs.declared.array.Array.{Array}
 use Rattle.fir_net.specs.declared.leaf.Leaf.{Leaf}
 use Rattle.fir_net.specs.declared.net.FlatNet.{FlatNet}
 use Rattle.fir_net.specs.working.IsNet.{is_port}
@@ -42,17 +43,15 @@ pub record IsPlainNet (c : LeafCircuit) (ports : ℕ) (net : FlatNet) : Type 0 w
   pub each : (x : ℕ) (l : Leaf) → slice_get net.leaves x ≡ Some l → IsPlainLeaf (leaf_at c.leaves x) l
   pub outer : (x : ℕ) (l : Leaf) → slice_get net.leaves x ≡ Some l → x < ports → is_port l.role ≡ true
   pub inner : (x : ℕ) (l : Leaf) → slice_get net.leaves x ≡ Some l → ports ≤ x → is_port l.role ≡ false
+  pub array_paths : (n : ℕ) (a : Array) (d : LeafArray) → slice_get net.arrays n ≡ Some a → slice_get c.arrays n ≡ Some d → a.path ≡ path_text d.path
 
-module _ (c : LeafCircuit) (m : LeafModule) (net : FlatNet) (plain : IsPlainDesign c m.port_leaves) (has : HasPorts m c) (none : c.array_order ≡ [])
+module _ (c : LeafCircuit) (m : LeafModule) (net : FlatNet) (plain : IsPlainDesign c m.port_leaves) (has : HasPorts m c)
     (is : IsFlatDesign c m.port_leaves net) where
   leaf_plain : (x : ℕ) (l : Leaf) → slice_get net.leaves x ≡ Some l → IsPlainLeaf (leaf_at c.leaves x) l
   leaf_plain x l at =
-      let count = is.count in
-      let inside = slice_get_within net.leaves x l at in
       record {
         shaped =
-            role_shaped net.nodes (net_types (as_module c)) (depth_of c x) c.body x l.role (held_in (as_module c) x) (role_of c x) (is.each x l at).role
-            (plain.taken x (omega (arith, count, inside)));
+            role_shaped net.nodes (net_types (as_module c)) (depth_of c x) c.body x l.role (held_in (as_module c) x) (role_of c x) (is.each x l at).role;
         width = width_is l (held_in (as_module c) x) (is.each x l at).has_width;
       }
 
@@ -96,8 +95,9 @@ module _ (c : LeafCircuit) (m : LeafModule) (net : FlatNet) (plain : IsPlainDesi
     outputs = outputs_are;
     clock_outputs = clock_outputs_are;
     words = is.state;
-    arrays = is.arrays;
-    no_arrays = none;
+    array_count = is.array_count;
+    arrays = λ n a d at own. (is.arrays n a d at own).is;
+    array_order = is.array_order;
   }
 
   pub plain_net : IsPlainNet c m.port_leaves net
@@ -107,7 +107,8 @@ module _ (c : LeafCircuit) (m : LeafModule) (net : FlatNet) (plain : IsPlainDesi
     each = leaf_plain;
     outer = λ x l at. (is.each x l at).port;
     inner = λ x l at. (is.each x l at).inner;
+    array_paths = λ n a d at own. (is.arrays n a d at own).path;
   }
 
   pub faithful : IsFaithful c net
-  faithful = record { whole = is.whole; flat = flat_of; typed = plain.typed; driven = plain.driven }
+  faithful = record { whole = is.whole; flat = flat_of; typed = plain.typed; memories = plain.memories; driven = plain.driven }

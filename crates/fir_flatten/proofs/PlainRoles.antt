@@ -17,7 +17,6 @@ use Rattle.fir_meaning.specs.working.LeafedModules.{leafed_module, module_leaves
 use Rattle.fir_meaning.specs.working.LeafModules.{LeafDeclared, LeafModule, Role, computed, leaf_at, pipe, reading, register, role_at, sink, source}
 use Rattle.fir_meaning.specs.working.Numberings.{Numbering, moved, moved_role, number, numbering}
 use Rattle.fir_meaning.specs.working.Terms.{Term, absent, literal, mux, operation, read, validif, zeros}
-use Rattle.fir_lack.specs.working.TakenCircuits.{IsTakenModule, IsTakenRole}
 use Rattle.fir_design.specs.working.MeaningLaws.{AreDesigns}
 use Rattle.fir_design.proofs.FineScenes.{IsFineScene, fine_scene}
 use Rattle.fir_design.proofs.NumberedScenes.{scene_numbered, view_at}
@@ -46,14 +45,6 @@ record IsMoved (scenes : List Scene) (table : List LeafDeclared) (y : ℕ) : Typ
   below : leaf < length (leafed_module scene).leaves
   stands : (z : ℕ) → z < length (leafed_module scene).leaves → number (numbering (leafed_module scene) copy.first copy.own) z < length table
   role : (leaf_at table y).role ≡ moved_role (numbering (leafed_module scene) copy.first copy.own) array (role_at (leafed_module scene) leaf)
-
-taken_moved : (n : Numbering) (array : ℕ) (r : Role) → IsTakenRole r → IsTakenRole (moved_role n array r)
-taken_moved n array source h = tt
-taken_moved n array sink h = tt
-taken_moved n array (computed t) h = tt
-taken_moved n array (register c r) h = tt
-taken_moved n array (reading r) h = absurd h
-taken_moved n array (pipe r c under) h = absurd h
 
 never_source : (n : Numbering) (array : ℕ) (r : Role) → moved_role n array r ≡ source → ⊥
 never_source n array source e = absurd (cc)
@@ -133,7 +124,7 @@ module _ (c : CircuitTree) (m : LeafModule) (is : Items) (t : SourceDesign) (a :
         scene = s.scene;
         among = get_in a.scenes i.copy.module_number s.scene s.is;
         copy = i.copy;
-        array = s.array;
+        array = i.copy.array;
         leaf = i.leaf;
         behind = own;
         below = within;
@@ -162,13 +153,6 @@ module _ (c : CircuitTree) (m : LeafModule) (is : Items) (t : SourceDesign) (a :
       let i = inner_moved y le lt in
       never_source (numbering (leafed_module i.scene) i.copy.first i.copy.own) i.array (role_at (leafed_module i.scene) i.leaf) (sym i.role ∙ e)
 
-  pub roles_taken : ((s : Scene) → In a.scenes s → IsTakenModule (leafed_module s))
-      → (y : ℕ) → y < length (flattened (made_of m is)).leaves → IsTakenRole (role_of (flattened (made_of m is)) y)
-  roles_taken taken =
-      each_role IsTakenRole tt tt
-      (λ y i. taken_moved (numbering (leafed_module i.scene) i.copy.first i.copy.own) i.array (role_at (leafed_module i.scene) i.leaf)
-      ((taken i.scene i.among).roles i.leaf i.below))
-
   pub roles_behind : (y : ℕ) → y < length (flattened (made_of m is)).leaves → HasClockBehind (role_of (flattened (made_of m is)) y)
   roles_behind =
       each_role HasClockBehind tt tt
@@ -189,7 +173,7 @@ module _ (c : CircuitTree) (m : LeafModule) (is : Items) (t : SourceDesign) (a :
   pub whole_within : IsModuleWithin (as_module (flattened (made_of m is)))
   whole_within = record {
     body =
-        below_within a.scenes (length (flattened (made_of m is)).leaves) (λ s i. scene_reading s (fine s i)) (made_of m is) x 0 m.port_leaves
+        below_within a.scenes (length (flattened (made_of m is)).leaves) (λ s i. scene_reading s (fine s i)) (made_of m is) x 0 m.port_leaves 0
         (subst (λ (u : LeafModule). IsDesignOf (views a.scenes) u (made_of m is)) (sym (view_at a.scenes x a.main at)) a.design.is) copies_within;
     roles = roles_within;
   }

@@ -10,7 +10,7 @@ use Rattle.fir_leaf_circuit.specs.working.Seen.{type_seen}
 use Rattle.fir_meaning.specs.LeafTypes.{a_clock, has_bits}
 use Rattle.fir_meaning.specs.working.LeafBlocks.{LeafBlock}
 use Rattle.fir_meaning.specs.working.LeafCircuits.{LeafCircuit}
-use Rattle.fir_meaning.specs.working.LeafModules.{LeafReset, Role as LeafRole, computed, register, sink, source}
+use Rattle.fir_meaning.specs.working.LeafModules.{LeafReset, Role as LeafRole, computed, pipe, reading, register, sink, source}
 use Rattle.fir_meaning.specs.working.StateWalks.{is_state}
 use Rattle.fir_connect.specs.working.CircuitModules.{as_module}
 use Rattle.fir_connect.specs.working.NetRoles.{NetRole as RoleMeant, net_reset, net_role, net_types}
@@ -19,8 +19,8 @@ use Rattle.fir_connect.specs.working.NetTerms.{NetTerm}
 use Rattle.fir_net.specs.declared.leaf.Leaf.{Leaf}
 use Rattle.fir_net.specs.declared.reads.Read.{Read}
 use Rattle.fir_net.specs.declared.reads.Read.TheVariants as read
-use Rattle.fir_net.specs.working.Counted.{is_register}
 use Rattle.fir_net.specs.working.IsNet.{is_port, is_word}
+use Rattle.fir_net.specs.working.IsNet as net
 use Rattle.fir_net.specs.working.Settled.{is_clock}
 use Rattle.fir_merge.specs.declared.bound.Bound.{Bound}
 use Rattle.fir_leaf_types.specs.working.TypedTerms.{IsNarrow}
@@ -57,11 +57,11 @@ module _ (places : List ℕ) where
   takes_nothing false (Number u) r = refl
   takes_nothing false Clock r = refl
 
-  no_register : (outer : Bool) (holds : TypeOfCode) (r : Read) → is_register (driven_role places outer holds r) ≡ false
-  no_register true (Number u) r = refl
-  no_register true Clock r = refl
-  no_register false (Number u) r = refl
-  no_register false Clock r = refl
+  no_state : (outer : Bool) (holds : TypeOfCode) (r : Read) → net.is_state (driven_role places outer holds r) ≡ false
+  no_state true (Number u) r = refl
+  no_state true Clock r = refl
+  no_state false (Number u) r = refl
+  no_state false Clock r = refl
 
 or_true : (a : Bool) → true ≡ (a || true)
 or_true true = refl
@@ -132,23 +132,27 @@ module _ (places : List ℕ) (outer driven : Bool) (count : ℕ) where
       inner_port (Number u) (code.Driven d) sink none is = refl
       inner_port (Number u) (code.Computed d) (computed t) none is = refl
       inner_port (Number u) (code.Register clock reset next) (register k p) none is = refl
+      inner_port (Number u) (code.Reading e) (reading m) none is = refl
+      inner_port (Number u) (code.Pipe e clock under) (pipe m k v) none is = refl
       inner_port holds r q none is = absurd is
 
       -- words of the state
       word_by : (holds : TypeOfCode) (r : NetRole) (q : LeafRole) → GivenBy holds r q
-          → (is_register (flat_role_of places outer driven holds r count) && not (nat_eq (width_of holds).width 0)) ≡ (is_state q && has_bits (type_seen holds))
+          → (net.is_state (flat_role_of places outer driven holds r count) && not (nat_eq (width_of holds).width 0)) ≡ (is_state q && has_bits (type_seen holds))
       word_by Clock code.Source source is = refl
       word_by (Number u) code.Source source is = refl
-      word_by Clock (code.Driven d) sink is = ap (λ (a : Bool). a && true) (no_register places outer Clock d.read)
-      word_by Clock (code.Computed d) (computed t) is = ap (λ (a : Bool). a && true) (no_register places outer Clock d.read)
-      word_by (Number u) (code.Driven d) sink is = ap (λ (a : Bool). a && not (nat_eq u.width 0)) (no_register places outer (Number u) d.read)
-      word_by (Number u) (code.Computed d) (computed t) is = ap (λ (a : Bool). a && not (nat_eq u.width 0)) (no_register places outer (Number u) d.read)
+      word_by Clock (code.Driven d) sink is = ap (λ (a : Bool). a && true) (no_state places outer Clock d.read)
+      word_by Clock (code.Computed d) (computed t) is = ap (λ (a : Bool). a && true) (no_state places outer Clock d.read)
+      word_by (Number u) (code.Driven d) sink is = ap (λ (a : Bool). a && not (nat_eq u.width 0)) (no_state places outer (Number u) d.read)
+      word_by (Number u) (code.Computed d) (computed t) is = ap (λ (a : Bool). a && not (nat_eq u.width 0)) (no_state places outer (Number u) d.read)
       word_by (Number u) (code.Register clock reset next) (register k p) is = positive u.width
+      word_by (Number u) (code.Reading e) (reading m) is = refl
+      word_by (Number u) (code.Pipe e clock under) (pipe m k v) is = positive u.width
       word_by holds r q is = absurd is
 
       pub word_is : (l : Leaf) (holds : TypeOfCode) (r : NetRole) (q : LeafRole) → l.width ≡ (width_of holds).width
           → l.role ≡ flat_role_of places outer driven holds r count → GivenBy holds r q → is_word l ≡ (is_state q && has_bits (type_seen holds))
-      word_is l holds r q width role is = ap₂ (λ o w. is_register o && not (nat_eq w 0)) role width ∙ word_by holds r q is
+      word_is l holds r q width role is = ap₂ (λ o w. net.is_state o && not (nat_eq w 0)) role width ∙ word_by holds r q is
 
       -- whether something drives it or resets it
       taken_there : (u : NumTy) (s : Option NetReset) (reset : Option LeafReset) (next : Bound)
@@ -178,4 +182,6 @@ module _ (places : List ℕ) (outer driven : Bool) (count : ℕ) where
       taken_is (Number u) (code.Driven d) sink is = takes_nothing places outer (Number u) d.read
       taken_is (Number u) (code.Computed d) (computed t) is = takes_nothing places outer (Number u) d.read
       taken_is (Number u) (code.Register clock s next) (register k reset) is = taken_there u s reset next is.1
+      taken_is (Number u) (code.Reading e) (reading m) is = refl
+      taken_is (Number u) (code.Pipe e clock under) (pipe m k v) is = refl
       taken_is holds r q is = absurd is

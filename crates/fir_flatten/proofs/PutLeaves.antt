@@ -22,7 +22,7 @@ pub main_none : (parts : List ModulePart) (copies : List ModuleCopy) → slice_g
 main_none parts [] e = refl
 main_none parts (j ∷ ks) e = cc
 
-range_more : (from n : ℕ) → range_with_len from (suc n) ≡ range_with_len from n ++ (from + n) ∷ []
+pub range_more : (from n : ℕ) → range_with_len from (suc n) ≡ range_with_len from n ++ (from + n) ∷ []
 range_more from zero = ap (λ x. x ∷ []) (omega arith)
 range_more from (suc n) =
     let last : (from + 1) + n ≡ from + suc n = omega arith in

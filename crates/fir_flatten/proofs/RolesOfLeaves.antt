@@ -5,10 +5,12 @@ use Rattle.fir_bits.specs.Forms.{no_type}
 use Rattle.fir_bits.specs.declared.types.NumTy.{NumTy}
 use Rattle.fir_leaf_circuit.specs.declared.leaf.LeafType.{LeafType as TypeOfCode}
 use Rattle.fir_leaf_circuit.specs.declared.leaf.LeafType.TheVariants.{Clock, Number}
+use Rattle.fir_leaf_circuit.specs.declared.leaf.ReadingRole.{ReadingRole}
 use Rattle.fir_leaf_circuit.specs.working.Seen.{type_seen}
 use Rattle.fir_leaf_types.specs.working.TypedModules.{held_in}
 use Rattle.fir_meaning.specs.LeafTypes.{a_clock}
 use Rattle.fir_meaning.specs.working.LeafCircuits.{LeafCircuit}
+use Rattle.fir_meaning.specs.working.LeafModules.{Reading}
 use Rattle.fir_connect.specs.working.CircuitModules.{as_module}
 use Rattle.fir_connect.specs.working.NetRoles.{NetReset as ResetMeant, NetRole as RoleMeant, net_types}
 use Rattle.fir_connect.specs.working.NetRoles as meant
@@ -18,20 +20,23 @@ use Rattle.fir_net.specs.declared.net.FlatNet.{FlatNet}
 use Rattle.fir_net.specs.declared.node.Node.{Node}
 use Rattle.fir_net.specs.declared.reads.Read.{Read}
 use Rattle.fir_net.specs.declared.reads.Read.TheVariants as read
-use Rattle.fir_net.specs.working.IsNet.{CanBeClock, CanBeDriven, CanBeReset, CanDrive, IsClock, IsReset, IsRole, node_type}
+use Rattle.fir_net.specs.working.IsNet.{CanBeClock, CanBeDriven, CanBeReset, CanDrive, IsAddressed, IsClock, IsReset, IsRole, node_type}
 use Rattle.fir_merge.specs.declared.bound.Bound.{Bound}
 use Rattle.fir_merge.proofs.GrownTerms.{node_there}
-use Rattle.fir_flat.specs.working.FlatCircuits.{IsClockedBy, IsDrivenBy, IsNextOf, IsResetOf, IsRoleOf, NamesClock, next_of, reset_kept}
+use Rattle.fir_flat.specs.working.FlatCircuits.{IsClockedBy, IsDrivenBy, IsNextOf, IsReadingOf, IsResetOf, IsRoleOf, NamesClock, is_new, next_of, reset_kept}
 use Rattle.fir_whens.specs.declared.net_role.NetReset.{NetReset}
 use Rattle.fir_whens.specs.declared.net_role.NetRole.{NetRole}
 use Rattle.fir_whens.specs.declared.net_role.NetRole.TheVariants as code
+use Rattle.fir_flatten.specs.working.ArrayPorts.{array_read, enable_of, reading_nodes}
 use Rattle.fir_flatten.specs.working.FlatDesigns.{IsClockLeaf}
-use Rattle.fir_flatten.specs.working.FlatRoles.{async_reset, choice_node, choices_of, choices_of_reset, clock_named, clock_of, driven_next, driven_role, flat_role_of, next_read, reset_of, width_of}
+use Rattle.fir_flatten.specs.working.FlatRoles.{added_by, async_reset, choice_node, choices_of_reset, clock_named, clock_of, driven_next, driven_role, flat_role_of, next_read, reset_of, width_of}
 use Rattle.fir_flatten.specs.working.KeptNodes.{LeavesHold, moved}
 use Rattle.fir_flatten.proofs.BuiltNodes.{AreBuilt}
 use Rattle.fir_flatten.proofs.ChoiceNodes.{drive_of, one_choice, read_of}
-use Rattle.fir_flatten.proofs.GivenRoles.{Drives, IsGiven, MayReset, Resets}
+use Rattle.fir_flatten.proofs.GivenRoles.{Drives, IsGiven, MayReset, Reads, Resets}
 use Rattle.fir_flatten.proofs.MovedRoles.{StandsMoved}
+use Rattle.fir_flatten.proofs.PortBits.{addressed, reading_bit, reading_term}
+use Rattle.fir_flatten.proofs.StandingNodes.{StandAt, stands_first}
 
 driven_by : (places : List ℕ) (outer : Bool) (u : NumTy) (r : Read) → IsDrivenBy (driven_role places outer (Number u) r) (moved places r)
 driven_by places true u r = inl refl
@@ -133,7 +138,25 @@ module _
 
   module _ (outer driven : Bool) (k count : ℕ) where
     abbrev PutAt : NetRole → Type 0
-    PutAt r = (n : Node) → choices_of places r ≡ n ∷ [] → slice_get net.nodes count ≡ Some n
+    PutAt r = StandAt net.nodes count (added_by places r count)
+
+    -- the choice of a reset
+    choice_at : (clock next : Bound) (s : Option NetReset) → PutAt (code.Register clock s next) → (n : Node) → choices_of_reset places s next ≡ n ∷ []
+        → slice_get net.nodes count ≡ Some n
+    choice_at clock next s at n one = stands_first net.nodes count n [] (subst (StandAt net.nodes count) one at)
+
+    -- what a memory's port reads
+    reading_stands : (u : NumTy) (e : ReadingRole) (m : Reading) → Reads c u e m → StandAt net.nodes count (reading_nodes e count)
+        → IsReadingOf net.nodes (array_read e count) m
+    reading_stands u e m is at =
+        subst (IsReadingOf net.nodes (array_read e count)) is.alike
+        (record { array = refl; address = refl; enable = reading_term c net.leaves hold net.nodes built.before count e.enable e.mode at })
+
+    reading_can : (u : NumTy) (e : ReadingRole) (m : Reading) → Reads c u e m → StandAt net.nodes count (reading_nodes e count)
+        → IsAddressed net.leaves net.nodes (array_read e count).address (array_read e count).enable
+    reading_can u e m is at =
+        addressed c net.leaves hold net.nodes e.address (enable_of e.enable e.mode count) is.typed.address
+        (reading_bit c net.leaves hold net.nodes built.before count e.enable e.mode is.typed.needs at)
 
     pub role_stands : (holds : TypeOfCode) (r : NetRole) (q : RoleMeant) → IsGiven c Stands holds r q → PutAt r → (driven ≡ false → KeepsOwn k q)
         → StandsInside outer q
@@ -154,7 +177,13 @@ module _
       refl,
       is.0.is ∙ ap leaf (ap clock_of (sym is.0.reads)),
       (reset_is u s p is.1).kept,
-      (next_is k driven u s p next t count is.1 is.2 own at).term,
+      (next_is k driven u s p next t count is.1 is.2 own (choice_at clock next s at)).term,
+    )
+    role_stands (Number u) (code.Reading e) (meant.reading m) is at own inside = (array_read e count, refl, reading_stands u e m is at)
+    role_stands (Number u) (code.Pipe e clock under) (meant.pipe m k v) is at own inside = (
+      record { clock = clock; read = array_read e count; is_new = is_new under },
+      refl,
+      record { read = reading_stands u e m is.reads at; clock = is.same_clock; moment = ap is_new is.moment },
     )
     role_stands holds r q is at own inside = absurd is
 
@@ -187,6 +216,9 @@ module _
       role_can (Number u) (code.Register clock s next) (meant.register j p t) is at own = (
         subst (IsClock net.leaves) (ap clock_of (sym is.0.reads)) (clocks is.0.clock is.0.is_leaf.0 is.0.is_leaf.1),
         (reset_is u s p is.1).can,
-        (next_is k driven u s p next t count is.1 is.2 own at).can,
+        (next_is k driven u s p next t count is.1 is.2 own (choice_at clock next s at)).can,
       )
+      role_can (Number u) (code.Reading e) (meant.reading m) is at own = reading_can u e m is at
+      role_can (Number u) (code.Pipe e clock under) (meant.pipe m k v) is at own =
+          (clocks clock is.typed.within is.typed.is, reading_can u e m is.reads at)
       role_can holds r q is at own = absurd is

@@ -1,8 +1,9 @@
 -- The roles of a module where they are put among those of the whole design: they stand for the same roles over its numbers.
-use Rattle.std.proofs.Common.{◌≡◌, ℕ, ◌+◌, ◌^◌, ◌<◌, List, ◌++◌, length, map, Option, Some, None, refl}
+use Rattle.std.proofs.Common.{◌≡◌, ℕ, ◌+◌, ◌^◌, ◌<◌, List, ◌++◌, length, map, Option, Some, None, refl, ap, ◌∙◌}
 use Rattle.std.specs.Prelude.{option_map}
+use Rattle.fir_meaning.specs.LeafTypes.{LeafType}
 use Rattle.fir_meaning.specs.working.LeafBlocks.{LeafBlock}
-use Rattle.fir_meaning.specs.working.LeafModules.{Role}
+use Rattle.fir_meaning.specs.working.LeafModules.{LeafArray, LeafDeclared, Role}
 use Rattle.fir_meaning.specs.working.LeafModules as leafed
 use Rattle.fir_meaning.specs.working.Numberings.{Numbering, number}
 use Rattle.fir_meaning.specs.working.TermValues.{Holds}
@@ -20,8 +21,9 @@ use Rattle.fir_whens.specs.declared.net_role.NetRole.{NetRole}
 use Rattle.fir_whens.specs.declared.net_role.NetRole.TheVariants as code
 use Rattle.fir_whens.specs.working.StandingRoles.{ResetStands, RoleStands}
 use Rattle.fir_flatten.specs.declared.offsets.Offsets.{Offsets}
-use Rattle.fir_flatten.specs.working.DesignNets.{IsOfNoMemory, ReadsBelow, ResetReadsBelow, RoleReadsBelow}
-use Rattle.fir_flatten.specs.working.MovedNets.{leaf_moved, node_moved, read_moved, reset_moved, role_moved}
+use Rattle.fir_flatten.specs.working.DesignNets.{ReadsBelow, ResetReadsBelow, RoleReadsBelow}
+use Rattle.fir_flatten.specs.working.MovedNets.{array_moved, leaf_moved, node_moved, read_moved, reset_moved, role_moved}
+use Rattle.fir_flatten.proofs.MovedPorts.{IsPortTyped, reading_moved_stands}
 use Rattle.fir_flatten.proofs.MovedTerms.{stands_moved}
 
 -- a role stands still where nodes are added
@@ -42,20 +44,6 @@ module _ (holds : Holds) (old new : List Node) (grows : Grows old new) where
   role_later (code.Reading e) (meant.reading r) h = h
   role_later (code.Pipe e clock under) (meant.pipe r c u) h = h
   role_later r q h = absurd h
-
--- what is none of a memory's port has such a role in a net
-abbrev pub IsPlain : RoleMeant → Type 0
-IsPlain (meant.reading r) = ⊥
-IsPlain (meant.pipe r clock under) = ⊥
-IsPlain _ = Unit {0}
-
-pub role_plain : (holds : Holds) (depth : ℕ) (b : LeafBlock) (x : ℕ) (r : Role) → IsOfNoMemory r → IsPlain (net_role holds depth b x r)
-role_plain holds depth b x leafed.source h = tt
-role_plain holds depth b x leafed.sink h = tt
-role_plain holds depth b x (leafed.computed t) h = tt
-role_plain holds depth b x (leafed.register clock reset) h = tt
-role_plain holds depth b x (leafed.reading r) h = h
-role_plain holds depth b x (leafed.pipe r clock under) h = h
 
 -- only a source stands for none
 pub no_source : (holds : Holds) (net : List Node) (r : NetRole) → RoleStands holds net r meant.source → r ≡ code.Source
@@ -85,8 +73,12 @@ moved_source at (code.Pipe r clock under) e = cc
 
 -- a module's nodes are put behind others; its first so many leaves have their types there
 module _ (at : Offsets) (old ns : List Node) (first : length old ≡ at.nodes) (room : length old + length ns < 2 ^ 64) (before : ReadBefore 0 ns) where
-  module _ (inner outer : Holds) (n : Numbering) (array count : ℕ) (places : (y : ℕ) → y < count → leaf_moved at y ≡ number n y)
-      (held : (y : ℕ) → y < count → outer (number n y) ≡ inner y) where
+  module _ (inner outer : Holds) (n : Numbering) (array : ℕ) (leaves : List LeafDeclared) (arrays : List LeafArray)
+      (places : (y : ℕ) → y < length leaves → leaf_moved at y ≡ number n y) (stand : (k : ℕ) → k < length arrays → array_moved at k ≡ array + k)
+      (held : (y : ℕ) → y < length leaves → outer (number n y) ≡ inner y) where
+    abbrev count : ℕ
+    count = length leaves
+
     abbrev net : List Node
     net = old ++ map (node_moved at) ns
 
@@ -103,13 +95,14 @@ module _ (at : Offsets) (old ns : List Node) (first : length old ≡ at.nodes) (
     reset_stands None (Some q) reads h = absurd h
     reset_stands (Some r) None reads h = absurd h
 
-    pub role_stands : (r : NetRole) (q : RoleMeant) → RoleReadsBelow count q → IsPlain (moved_net_role n array q) → RoleStands inner ns r q
+    pub role_stands : (h : LeafType) (r : NetRole) (q : RoleMeant) → RoleReadsBelow count q → IsPortTyped leaves arrays h q → RoleStands inner ns r q
         → RoleStands outer net (role_moved at r) (moved_net_role n array q)
-    role_stands code.Source meant.source reads plain h = tt
-    role_stands (code.Driven b) (meant.driven t) reads plain h = bound_stands b t reads h
-    role_stands (code.Computed b) (meant.computed t) reads plain h = bound_stands b t reads h
-    role_stands (code.Register clock reset next) (meant.register c r t) reads plain h =
-        (bound_stands clock c reads.0 h.0, reset_stands reset r reads.1 h.1, bound_stands next t reads.2 h.2)
-    role_stands (code.Reading e) (meant.reading r) reads plain h = absurd plain
-    role_stands (code.Pipe e clock under) (meant.pipe r c u) reads plain h = absurd plain
-    role_stands r q reads plain h = absurd h
+    role_stands t code.Source meant.source reads typed h = tt
+    role_stands t (code.Driven b) (meant.driven d) reads typed h = bound_stands b d reads h
+    role_stands t (code.Computed b) (meant.computed d) reads typed h = bound_stands b d reads h
+    role_stands t (code.Register clock reset next) (meant.register c r d) reads typed h =
+        (bound_stands clock c reads.0 h.0, reset_stands reset r reads.1 h.1, bound_stands next d reads.2 h.2)
+    role_stands t (code.Reading e) (meant.reading r) reads typed h = reading_moved_stands at n leaves places arrays array stand t e r typed h
+    role_stands t (code.Pipe e clock under) (meant.pipe r c u) reads typed h =
+        (reading_moved_stands at n leaves places arrays array stand t e r typed.0 h.0, ap (leaf_moved at) h.1 ∙ places c typed.1.within, h.2)
+    role_stands t r q reads typed h = absurd h

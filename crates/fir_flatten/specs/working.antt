@@ -6,6 +6,7 @@ pub mod CircuitParts
 pub mod DesignNets
 pub mod MovedNets
 pub mod PutModules
+pub mod DesignArrays
 -- What is told of a leaf whose clock is not clear.
 pub mod FirstIndices
 pub mod LiveSites
@@ -17,7 +18,9 @@ pub mod FirstSites
 -- The nodes that leaves need.
 pub mod KeptNodes
 -- The flat net: its leaves and their roles.
+pub mod ArrayPorts
 pub mod FlatRoles
+pub mod FlatArrays
 pub mod FlatDesigns
 -- What it means, and which faults there are in place of it.
 pub mod FlattensTo

@@ -8,6 +8,7 @@ ghost use Rattle.fir_flatten.specs.working.DesignNets.{MakesDesign};
 ghost use Rattle.fir_flatten.specs.working.MovedNets.{node_moved};
 ghost use Rattle.fir_flatten.specs.working.PutModules.{given, given_from, leaves_of, main_part, no_values, part_leaf, part_leaves, port_part, ports_of, put_copies, put_module, values_seen};
 
+use crate::design_arrays::{DesignArray, design_arrays};
 use crate::moved_roles::{moved_node, moved_role};
 use crate::offsets::Offsets;
 use fir_ast::Place;
@@ -19,14 +20,15 @@ use fir_net::{Node, Read};
 use fir_whens::{ModuleNet, NetReset, NetRole};
 use std::alloc::Global;
 
-/// A module of the circuit: its leaves and its net, the paths of its leaves as they are printed, and which of them some
-/// statement drives.
+/// A module of the circuit: its leaves and its net, the paths of its leaves as they are printed, which of them some
+/// statement drives, and the paths of its arrays.
 #[derive(Drop)]
 pub struct ModulePart<'a> {
     pub part: &'a LeafModule,
     pub net: &'a ModuleNet,
     pub texts: Vec<Name>,
     pub driven: Vec<bool>,
+    pub array_texts: Vec<Name>,
 }
 
 /// A leaf of the design.
@@ -41,13 +43,14 @@ pub struct DesignLeaf {
 }
 
 /// The modules of a design as one: its leaves, of which those of the main module's ports stand in front; the nodes of
-/// their nets; and by the numbers of the leaves what gives each its value.
+/// their nets; by the numbers of the leaves what gives each its value; and their arrays.
 #[derive(Drop)]
 pub struct DesignNet {
     pub port_leaves: usize,
     pub leaves: Vec<DesignLeaf>,
     pub nodes: Vec<Node>,
     pub roles: Vec<NetRole>,
+    pub arrays: Vec<DesignArray>,
 }
 
 /// The nodes, and what gives each leaf its value.
@@ -68,11 +71,13 @@ pub fn design_net(
     let port_leaves = main_ports(modules, copies);
     let leaves = design_leaves(alloc, modules, copies)?;
     let Values { nodes, roles } = design_values(alloc, modules, copies, leaves.len())?;
+    let arrays = design_arrays(alloc, modules, copies)?;
     Ok(DesignNet {
         port_leaves,
         leaves,
         nodes,
         roles,
+        arrays,
     })
 }
 

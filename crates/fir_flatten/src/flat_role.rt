@@ -2,20 +2,23 @@
 
 ghost use Rattle.std.specs.Prelude.{◌≡◌, [], ◌∷◌, ◌++◌, IfOk, OnOk, length};
 ghost use Rattle.fir_net.specs.declared.reads.Read.TheVariants as read;
-ghost use Rattle.fir_flatten.specs.working.FlatRoles.{choice_node, choices_of, choices_of_reset, clock_named, clock_of, driven_next, driven_role, flat_role_of, next_read, reset_of, source_role};
+ghost use Rattle.fir_flatten.specs.working.FlatRoles.{added_by, choice_node, choices_of_reset, clock_named, clock_of, driven_next, driven_role, flat_role_of, next_read, reset_of, source_role};
 
+use crate::array_ports::array_read;
 use crate::kept_nodes::{KeptNodes, moved};
-use fir_ast::{LeafId, NodeId};
+use fir_ast::{LeafId, NodeId, ReadUnderWrite};
 use fir_base::MemoryOut;
 use fir_leaf_circuit::LeafType;
 use fir_merge::Bound;
-use fir_net::{Mux, Node, Read, Register, Reset, ResetKind, Role};
+use fir_net::{Mux, Node, Pipe, Read, Register, Reset, ResetKind, Role};
 use fir_whens::{NetReset, NetRole};
+use std::alloc::Global;
 
 /// The role of a leaf that is one of a port or not, and that a statement drives or none, over the kept nodes, behind
-/// which the choices of synchronous resets are put. A register that nothing drives and no reset changes takes nothing.
-/// A memory has no leaves here yet.
+/// which the choices of synchronous resets are put, and what enables a memory's port. A register that nothing drives
+/// and no reset changes takes nothing.
 pub fn flat_role(
+    alloc: Global,
     is_port: bool,
     is_driven: bool,
     holds: LeafType,
@@ -23,7 +26,7 @@ pub fn flat_role(
     kept: &mut KeptNodes,
 ) -> Result<Role, MemoryOut>
     ensures role { IfOk result (λ r. r ≡ flat_role_of kept.old.places.items is_port is_driven holds role (length kept.old.nodes.items)) }
-    ensures nodes { OnOk result (kept.new.nodes.items ≡ kept.old.nodes.items ++ choices_of kept.old.places.items role) }
+    ensures nodes { OnOk result (kept.new.nodes.items ≡ kept.old.nodes.items ++ added_by kept.old.places.items role (length kept.old.nodes.items)) }
     ensures places { OnOk result (kept.new.places.items ≡ kept.old.places.items) }
 {
     match role {
@@ -39,7 +42,18 @@ pub fn flat_role(
                 next,
             }))
         }
-        NetRole::Reading(_) | NetRole::Pipe(_, _, _) => Ok(Role::Input),
+        NetRole::Reading(reading) => {
+            let read = array_read(alloc, reading, &mut kept.nodes)?;
+            Ok(Role::Reading(read))
+        }
+        NetRole::Pipe(reading, clock, under) => {
+            let read = array_read(alloc, reading, &mut kept.nodes)?;
+            Ok(Role::Pipe(Pipe {
+                clock: LeafId::new(clock),
+                read,
+                is_new: matches!(under, ReadUnderWrite::New),
+            }))
+        }
     }
 }
 

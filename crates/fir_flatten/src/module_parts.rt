@@ -16,7 +16,7 @@ use fir_ast::Circuit;
 use fir_base::{MemoryOut, Name};
 use fir_driven::driven_leaves;
 use fir_leaf_circuit::{LeafCircuit, LeafModule};
-use fir_leaf_text::{declared_names, leaf_texts};
+use fir_leaf_text::{array_texts, declared_names, leaf_texts};
 use fir_whens::{ModuleNet, NetCircuit};
 use std::alloc::Global;
 
@@ -74,5 +74,6 @@ fn module_part<'a>(
         net,
         texts: leaf_texts(alloc, circuit, number, names)?,
         driven: driven_leaves(alloc, part.leaves.len(), &part.nodes, &part.body)?,
+        array_texts: array_texts(alloc, circuit, number)?,
     })
 }

@@ -1,11 +1,11 @@
-//! The nodes and the roles of a module over the numbers of the whole design.
+//! The nodes, the roles and the writes of a module over the numbers of the whole design.
 
 ghost use Rattle.std.specs.Prelude.{◌≡◌, IfOk, option_map};
-ghost use Rattle.fir_flatten.specs.working.MovedNets.{bound_moved, node_moved, reading_moved, reset_moved, role_moved};
+ghost use Rattle.fir_flatten.specs.working.MovedNets.{bound_moved, leaf_moved, node_moved, reading_moved, reset_moved, role_moved, writing_moved};
 
 use crate::offsets::Offsets;
 use fir_base::{MemoryOut, Seq};
-use fir_leaf_circuit::ReadingRole;
+use fir_leaf_circuit::{ReadingRole, Writing};
 use fir_merge::Bound;
 use fir_net::{Mux, Node, Operation, Reads};
 use fir_whens::{NetReset, NetRole};
@@ -42,7 +42,7 @@ pub fn moved_node(alloc: Global, node: &Node, at: &Offsets) -> Result<Node, Memo
     }
 }
 
-/// What gives a leaf its value. Arrays keep their numbers.
+/// What gives a leaf its value.
 pub fn moved_role(role: NetRole, at: &Offsets) -> NetRole
     ensures { result ≡ role_moved at.now role }
 {
@@ -88,12 +88,32 @@ fn moved_reading(reading: ReadingRole, at: &Offsets) -> ReadingRole
     ensures { result ≡ reading_moved at.now reading }
 {
     ReadingRole {
-        array: reading.array,
+        array: at.array(reading.array),
         address: at.leaf(reading.address),
         enable: at.leaf(reading.enable),
-        mode: match reading.mode {
-            Some(mode) => Some(at.leaf(mode)),
-            None => None,
-        },
+        mode: moved_mode(reading.mode, at),
+    }
+}
+
+/// What writes an array.
+pub fn moved_writing(writing: &Writing, at: &Offsets) -> Writing
+    ensures { result ≡ writing_moved at.now writing.now }
+{
+    Writing {
+        address: at.leaf(writing.address),
+        enable: at.leaf(writing.enable),
+        mode: moved_mode(writing.mode, at),
+        mask: at.leaf(writing.mask),
+        clock: at.leaf(writing.clock),
+        given: at.leaf(writing.given),
+    }
+}
+
+fn moved_mode(mode: Option<usize>, at: &Offsets) -> Option<usize>
+    ensures { result ≡ option_map (leaf_moved at.now) mode }
+{
+    match mode {
+        Some(mode) => Some(at.leaf(mode)),
+        None => None,
     }
 }

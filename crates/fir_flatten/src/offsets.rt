@@ -1,7 +1,8 @@
-//! Where the leaves and the nodes of a module stand in the net of the whole design: all of one kind by one offset.
+//! Where the leaves, the nodes and the arrays of a module stand in the net of the whole design: all of one kind by one
+//! offset.
 
 ghost use Rattle.std.specs.Prelude.{◌≡◌};
-ghost use Rattle.fir_flatten.specs.working.MovedNets.{leaf_moved, offsets_of, read_moved, saturated};
+ghost use Rattle.fir_flatten.specs.working.MovedNets.{array_moved, leaf_moved, offsets_of, read_moved, saturated};
 
 use fir_ast::{LeafId, NodeId};
 use fir_elaborate::ModuleCopy;
@@ -18,6 +19,8 @@ pub struct Offsets {
     pub own: usize,
     /// Where the nodes begin.
     pub nodes: usize,
+    /// Where the arrays begin.
+    pub arrays: usize,
 }
 
 impl Offsets {
@@ -30,7 +33,15 @@ impl Offsets {
             first: copy.first,
             own: copy.own,
             nodes,
+            arrays: copy.array,
         }
+    }
+
+    /// The number of an array.
+    pub fn array(&self, array: usize) -> usize
+        ensures { result ≡ array_moved self.now array }
+    {
+        self.arrays.saturating_add(array)
     }
 
     /// The number of a leaf.

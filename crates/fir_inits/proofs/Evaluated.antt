@@ -46,6 +46,7 @@ module _ (net : FlatNet) (whole : IsNet net) (ns : List ℕ) (held : IsHeld net 
   role_below signed w role.Clock can x e = absurd (cc)
   role_below signed w (role.Register g) can x e = absurd (cc)
   role_below signed w (role.Reading g) can x e = absurd (cc)
+  role_below signed w (role.Pipe g) can x e = absurd (cc)
   role_below signed w (role.ClockOutput g) can x e = absurd (cc)
   role_below signed w (role.ClockWire g) can x e = absurd (cc)
 

@@ -71,6 +71,7 @@ module _ (net : FlatNet) (whole : IsNet net) (order : List Read) (is : IsOrder n
     leaf_known role.Clock role_is can constant state tick env clock s x e = absurd (cc)
     leaf_known (role.Register g) role_is can constant state tick env clock s x e = absurd (cc)
     leaf_known (role.Reading g) role_is can constant state tick env clock s x e = absurd (cc)
+    leaf_known (role.Pipe g) role_is can constant state tick env clock s x e = absurd (cc)
     leaf_known (role.ClockOutput g) role_is can constant state tick env clock s x e = absurd (cc)
     leaf_known (role.ClockWire g) role_is can constant state tick env clock s x e = absurd (cc)
 
@@ -82,6 +83,7 @@ module _ (net : FlatNet) (whole : IsNet net) (order : List Read) (is : IsOrder n
     undriven role.Clock role_is plain e = refl
     undriven (role.Register g) role_is plain e = refl
     undriven (role.Reading g) role_is plain e = refl
+    undriven (role.Pipe g) role_is plain e = refl
     undriven (role.ClockOutput g) role_is plain e = absurd (cc)
     undriven (role.ClockWire g) role_is plain e = absurd (cc)
 

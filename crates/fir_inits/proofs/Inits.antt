@@ -40,6 +40,7 @@ reset_of role.Clock init e = absurd (cc)
 reset_of (role.Output r) init e = absurd (cc)
 reset_of (role.Wire r) init e = absurd (cc)
 reset_of (role.Reading r) init e = absurd (cc)
+reset_of (role.Pipe p) init e = absurd (cc)
 reset_of (role.ClockOutput c) init e = absurd (cc)
 reset_of (role.ClockWire c) init e = absurd (cc)
 

@@ -187,6 +187,6 @@ fn is_input_or_state(leaf: &Leaf) -> bool
 {
     matches!(
         leaf.role,
-        Role::Input | Role::Clock | Role::Register(_) | Role::Reading(_)
+        Role::Input | Role::Clock | Role::Register(_) | Role::Reading(_) | Role::Pipe(_)
     )
 }

@@ -12,3 +12,7 @@ pub mod DeclaredTexts
 pub mod SeenNumbers
 pub mod LeafTexts
 pub mod AllTexts
+pub mod HeldLengths
+pub mod WordTexts
+pub mod ArrayTexts
+pub mod ArraysLeft

@@ -30,7 +30,7 @@ no_texts t path old count counted none =
     sym (append-nil old) ∙ ap (λ ls. old ++ texts_behind path (paths_of ls)) (sym (nothing_of (type_leaves t) (omega (arith, leaves_counted t))))
 
 -- the texts of the leaves of a part, and of those that follow
-texts_joined : (path : List ℕ) (f : Bool) (s : Step) (ls rest : List TypeLeaf)
+pub texts_joined : (path : List ℕ) (f : Bool) (s : Step) (ls rest : List TypeLeaf)
     → texts_behind path (paths_of (map (under f s) ls ++ rest)) ≡ texts_behind (path ++ step_text s) (paths_of ls) ++ texts_behind path (paths_of rest)
 texts_joined path f s [] rest = refl
 texts_joined path f s (l ∷ ls) rest =
@@ -38,7 +38,7 @@ texts_joined path f s (l ∷ ls) rest =
     ∙ ap (λ ts. ((path ++ step_text s) ++ flat_map step_text l.path) ∷ ts) (texts_joined path f s ls rest)
 
 -- those of a part are put behind the others, and the rest is left
-part_put : (path mid : List ℕ) (f : Bool) (s : Step) (ls rest : List TypeLeaf) (now new all : List (List ℕ)) → mid ≡ path ++ step_text s
+pub part_put : (path mid : List ℕ) (f : Bool) (s : Step) (ls rest : List TypeLeaf) (now new all : List (List ℕ)) → mid ≡ path ++ step_text s
     → now ++ texts_behind path (paths_of (map (under f s) ls ++ rest)) ≡ all → new ≡ now ++ texts_behind mid (paths_of ls)
     → new ++ texts_behind path (paths_of rest) ≡ all
 part_put path mid f s ls rest now new all is left put =

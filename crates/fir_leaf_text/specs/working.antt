@@ -4,3 +4,5 @@ pub mod TypePaths
 pub mod FieldsOfLeaves
 pub mod DeclaredLeaves
 pub mod TextsOfLeaves
+pub mod TextsOfArrays
+pub mod WordTexts

@@ -59,6 +59,7 @@ module _ (net : FlatNet) where
   role_within signed width (role.Wire r) h place w e = first_of r (can_read_of net r h.can) place w e
   role_within signed width (role.Register r) h place w e = reset_within signed r.reset h.1 place w e
   role_within signed width (role.Reading r) h place w e = either_of r.address r.enable (can_read_of net r.address h.address) (can_read_of net r.enable h.enable) place w e
+  role_within signed width (role.Pipe p) h place w e = absurd (none-some w e)
   role_within signed width (role.ClockOutput None) h place w e = absurd (none-some w e)
   role_within signed width (role.ClockOutput (Some k)) h place w e = first_of (read.Leaf k) (slice_get_within net.leaves k h.1.0 h.1.1) place w e
   role_within signed width (role.ClockWire None) h place w e = absurd (none-some w e)

@@ -1,8 +1,8 @@
 //! An order of a net.
 
-ghost use Rattle.std.specs.Prelude.{◌≡◌};
+ghost use Rattle.std.specs.Prelude.{◌≡◌, ◌++◌, IfOk};
 
-use fir_base::Seq;
+use fir_base::{MemoryOut, Seq};
 use fir_net::Read;
 use std::marker::Model;
 
@@ -29,6 +29,16 @@ impl Order {
         Order {
             entries: Seq::from_vec(entries),
         }
+    }
+
+    /// The order with these behind it, which has to be that of a net in which they come last.
+    pub fn followed_by(self, more: &[Read]) -> Result<Order, MemoryOut>
+        ensures { IfOk result (λ o. o ≡ self ++ more.now) }
+    {
+        let Order { entries } = self;
+        let mut entries = entries.into_vec();
+        entries.extend_from_slice(more)?;
+        Ok(Order::from_vec(entries))
     }
 
     /// The leaves and nodes in their order.

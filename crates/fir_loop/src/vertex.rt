@@ -33,7 +33,11 @@ fn role_read_at(role: &Role, place: usize) -> Option<Read>
         }
         Role::Register(register) => reset_read_at(register.reset, place),
         Role::Reading(reading) => array_read_at(*reading, place),
-        Role::Input | Role::Clock | Role::ClockOutput(None) | Role::ClockWire(None) => None,
+        Role::Input
+        | Role::Clock
+        | Role::Pipe(_)
+        | Role::ClockOutput(None)
+        | Role::ClockWire(None) => None,
     }
 }
 

@@ -1,19 +1,18 @@
 -- The words of arrays in the state: each has the width of its array, before a tick and after it.
-use Rattle.std.proofs.Common.{◌≡◌, ℕ, zero, suc, ◌+◌, ◌^◌, ◌<◌, ◌≤◌, List, [], ◌∷◌, ◌++◌, length, take, map, flat_map, replicate, Bool, true, false, ◌&&◌, nat_eq, nat_lt, if◌then◌else◌, refl, sym, ap, ◌∙◌, subst, arith, inl, inr}
+use Rattle.std.proofs.Common.{◌≡◌, ℕ, zero, suc, ◌+◌, ◌^◌, ◌<◌, ◌≤◌, List, [], ◌∷◌, ◌++◌, length, take, map, flat_map, replicate, Bool, true, false, nat_eq, if◌then◌else◌, refl, ap, ◌∙◌, subst, arith}
 use Rattle.std.specs.Prelude.{slice_get, slice_index, Option, Some, None, unwrap_or, option_map}
 use Rattle.std.proofs.lemmas.Nat.{pow_pos}
 use Rattle.std.proofs.lemmas.Option.{same_Some}
-use Rattle.fir_base.specs.Lists.{In}
-use Rattle.fir_base.specs.Ticks.{Tick, FitEach}
-use Rattle.fir_base.proofs.Elements.{all_there}
+use Rattle.fir_base.specs.Ticks.{FitEach}
 use Rattle.fir_net.specs.declared.array.Array.{Array}
 use Rattle.fir_net.specs.declared.array.ArrayRead.{ArrayRead}
 use Rattle.fir_net.specs.declared.array.ArrayWrite.{ArrayWrite}
+use Rattle.fir_net.specs.declared.leaf.Leaf.{Leaf}
 use Rattle.fir_net.specs.declared.net.FlatNet.{FlatNet}
 use Rattle.fir_net.specs.working.Arrays.{addresses, array_widths, begin_from, begin_of, widths_of, word_in, word_width, words_of}
 use Rattle.fir_net.specs.working.IsNet.{IsReadOf}
 use Rattle.fir_net.specs.working.Next.{array_after, arrays_next, is_written, word_after}
-use Rattle.fir_net.specs.working.Settled.{is_high, is_read, registers, shape, value_at, word_read}
+use Rattle.fir_net.specs.working.Settled.{is_read, registers, shape, value_at, word_read}
 use Rattle.fir_net.specs.working.Values.{at_width, leaf_width}
 
 -- the front of a state fits the front of its widths
@@ -91,17 +90,17 @@ module _ (net : FlatNet) where
             subst (λ (w : ℕ). slice_index state (place + i) < 2 ^ w) wide (fit_at (shape net).state state fits (place + i))
 
     -- what is read of it too
-    pub read_fits : (env : ℕ → ℕ) (r : ArrayRead) (width : ℕ) → IsReadOf net.arrays width r → word_read net state env r < 2 ^ width
-    read_fits env r width of = go (is_read net env r) refl
+    pub read_fits : (env : ℕ → ℕ) (r : ArrayRead) (l : Leaf) → IsReadOf net.arrays l r → word_read net state env r < 2 ^ l.width
+    read_fits env r l of = go (is_read net env r) refl
       where
         number : ℕ
         number = (value_at net env r.address).value.number
 
-        wide : word_width net.arrays r.array ≡ width
+        wide : word_width net.arrays r.array ≡ l.width
         wide = ap (λ (o : Option Array). unwrap_or (option_map (λ (a : Array). a.width) o) 0) of.1 ∙ of.2
 
-        go : (b : Bool) → is_read net env r ≡ b → (if b then word_in state (begin_of net r.array) number else 0) < 2 ^ width
-        go false e = pow_pos width
+        go : (b : Bool) → is_read net env r ≡ b → (if b then word_in state (begin_of net r.array) number else 0) < 2 ^ l.width
+        go false e = pow_pos l.width
         go true e =
             let within : number < words_of net.arrays r.array = grind arith in
             subst (λ (w : ℕ). word_in state (begin_of net r.array) number < 2 ^ w) wide (word_fits r.array number within)

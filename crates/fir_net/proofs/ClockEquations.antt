@@ -54,6 +54,7 @@ module _ (net : FlatNet) (whole : IsNet net) (order : List Read) (is_order : IsO
     role_same (role.Wire r) is can = refl
     role_same (role.Register r) is can = refl
     role_same (role.Reading r) is can = refl
+    role_same (role.Pipe p) is can = refl
     role_same (role.ClockOutput o) is can = driven_same o (ap role_reads is) can.1
     role_same (role.ClockWire o) is can = driven_same o (ap role_reads is) can.1
 

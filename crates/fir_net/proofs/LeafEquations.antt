@@ -20,7 +20,7 @@ use Rattle.fir_net.specs.working.Arrays.{array_widths}
 use Rattle.fir_net.specs.working.IsNet.{CanRead, CanBeReset, IsRole, IsLeaf, IsNet}
 use Rattle.fir_net.specs.working.IsOrder.{IsOrder}
 use Rattle.fir_net.specs.working.Values.{at_width, leaf_width}
-use Rattle.fir_net.specs.working.Settled.{value_at, is_high, shown_by, shown, is_read, word_read, shape, inputs, registers}
+use Rattle.fir_net.specs.working.Settled.{value_at, is_high, shown_by, shown, word_read, shape, inputs, registers}
 use Rattle.fir_net.proofs.ArrayWords.{front_fits, read_fits}
 use Rattle.fir_net.proofs.Places.{place_of, place_fits}
 use Rattle.fir_net.specs.working.Laws.{LeavesFit}
@@ -28,7 +28,7 @@ use Rattle.fir_net.proofs.WholeValues.{width_at, fit_below, value_whole}
 use Rattle.fir_net.proofs.AlongOrder.{SameBefore, HangsBefore}
 use Rattle.fir_net.proofs.ValuesAlong.{IsPlain, values_agree}
 
--- the word of a register, among those that stand in front of the arrays
+-- the word of a register or a pipe, among those that stand in front of the arrays
 abbrev pub front_word : FlatNet → List ℕ → ℕ → ℕ
 front_word net state k = slice_index (take (length (registers net)) state) (place_of k (registers net))
 
@@ -39,6 +39,7 @@ role_value net state tick env k width (role.Output r) = at_width (value_at net e
 role_value net state tick env k width (role.Wire r) = at_width (value_at net env r) width
 role_value net state tick env k width (role.Reading r) = word_read net state env r
 role_value net state tick env k width (role.Register d) = shown net env width d.reset (front_word net state k)
+role_value net state tick env k width (role.Pipe p) = front_word net state k
 role_value net state tick env k width _ = 0
 
 abbrev pub leaf_value : FlatNet → List ℕ → Tick → (ℕ → ℕ) → ℕ → Option Leaf → ℕ
@@ -73,17 +74,19 @@ module _ (law : HasItsType) (net : FlatNet) (whole : IsNet net) (env : ℕ → �
   shown_below w signed (Some d) word can h = shown_by_below w d.kind d.condition d.init word can.init.can h
 
   module _ (state : List ℕ) (tick : Tick) (shaped : HasShape (shape net) state tick) where
+    word_below : (k : ℕ) (l : Leaf) → slice_get net.leaves k ≡ Some l → front_word net state k < 2 ^ l.width
+    word_below k l at =
+        subst (λ (w : ℕ). front_word net state k < 2 ^ w) (width_at net.leaves k l at)
+        (place_fits (leaf_width net.leaves) (registers net) (take (length (registers net)) state) (front_fits (leaf_width net.leaves) (registers net) (array_widths net) state shaped.state_fits) k)
+
     role_below : (k : ℕ) (l : Leaf) (r : Role) → slice_get net.leaves k ≡ Some l → l.role ≡ r → IsRole net.leaves net.nodes l.signed l.width r → role_value net state tick env k l.width r < 2 ^ l.width
     role_below k l role.Input at eq is = subst (λ (w : ℕ). slice_index tick.inputs (place_of k (inputs net)) < 2 ^ w) (width_at net.leaves k l at) (place_fits (leaf_width net.leaves) (inputs net) tick.inputs shaped.inputs_fit k)
     role_below k l role.Clock at eq is = pow_pos l.width
     role_below k l (role.Output r) at eq is = fitted_below l.width r is.can
     role_below k l (role.Wire r) at eq is = fitted_below l.width r is.can
-    role_below k l (role.Register d) at eq is =
-        let word : front_word net state k < 2 ^ l.width =
-        subst (λ (w : ℕ). front_word net state k < 2 ^ w) (width_at net.leaves k l at)
-        (place_fits (leaf_width net.leaves) (registers net) (take (length (registers net)) state) (front_fits (leaf_width net.leaves) (registers net) (array_widths net) state shaped.state_fits) k) in
-        shown_below l.width l.signed d.reset (front_word net state k) is.1 word
-    role_below k l (role.Reading r) at eq is = read_fits net state shaped.state_fits env r l.width (whole.readings k l r at eq)
+    role_below k l (role.Register d) at eq is = shown_below l.width l.signed d.reset (front_word net state k) is.1 (word_below k l at)
+    role_below k l (role.Reading r) at eq is = read_fits net state shaped.state_fits env r l (whole.readings k l r at eq)
+    role_below k l (role.Pipe p) at eq is = word_below k l at
     role_below k l (role.ClockOutput c) at eq is = pow_pos l.width
     role_below k l (role.ClockWire c) at eq is = pow_pos l.width
 
@@ -127,6 +130,7 @@ module _ (net : FlatNet) (whole : IsNet net) (order : List Read) (is_order : IsO
         let address = read_same 0 r.address (ap (λ (x : Role). slice_get (role_reads x) 0) is) can.address in
         let enable = read_same 1 r.enable (ap (λ (x : Role). slice_get (role_reads x) 1) is) can.enable in
         rw (address, enable) refl
+    role_same (role.Pipe p) is can = refl
     role_same (role.ClockOutput c) is can = refl
     role_same (role.ClockWire c) is can = refl
 

@@ -42,6 +42,7 @@ input_role (role.Output r) w k e = cc
 input_role (role.Wire r) w k e = cc
 input_role (role.Register d) w k e = cc
 input_role (role.Reading r) w k e = cc
+input_role (role.Pipe p) w k e = cc
 input_role (role.ClockOutput c) w k e = cc
 input_role (role.ClockWire c) w k e = cc
 
@@ -52,6 +53,7 @@ clock_role (role.Output r) w k e = cc
 clock_role (role.Wire r) w k e = cc
 clock_role (role.Register d) w k e = cc
 clock_role (role.Reading r) w k e = cc
+clock_role (role.Pipe p) w k e = cc
 clock_role (role.ClockOutput c) w k e = cc
 clock_role (role.ClockWire c) w k e = cc
 

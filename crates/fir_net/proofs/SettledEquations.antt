@@ -6,12 +6,13 @@ use Rattle.std.proofs.lemmas.Option.{slice_get_within}
 use Rattle.fir_base.specs.Ticks.{Tick, HasShape}
 use Rattle.fir_bits.specs.working.Laws.{HasItsType}
 use Rattle.fir_net.specs.declared.reads.Read.{Read}
+use Rattle.fir_net.specs.declared.array.Pipe.{Pipe}
 use Rattle.fir_net.specs.declared.leaf.Register.{Register}
 use Rattle.fir_net.specs.declared.leaf.Role.{Role}
 use Rattle.fir_net.specs.declared.leaf.Role.TheVariants as role
 use Rattle.fir_net.specs.declared.leaf.Leaf.{Leaf}
 use Rattle.fir_net.specs.declared.net.FlatNet.{FlatNet}
-use Rattle.fir_net.specs.working.IsNet.{IsNet}
+use Rattle.fir_net.specs.working.IsNet.{is_state, IsNet}
 use Rattle.fir_net.specs.working.Values.{at_width, leaf_width}
 use Rattle.fir_net.specs.working.Settled.{with_bits, input_number, clock_number, inputs, clocks, registers, shape, value_at, is_clock, driver, clock_driver, driven_clock, shown, Settled}
 use Rattle.fir_net.proofs.Places.{place_of, value_at_place, values_at_places}
@@ -37,7 +38,7 @@ front_index (suc m) (x ∷ xs) zero l = refl
 front_index (suc m) (x ∷ xs) (suc i) l = front_index m xs i (omega (arith, l))
 
 module _ (law : HasItsType) (net : FlatNet) (whole : IsNet net) (state : List ℕ) (tick : Tick) where
-  -- the word of a register in front of the arrays is that of its place
+  -- the word of a register or a pipe in front of the arrays is that of its place
   word_of_place : (n k : ℕ) → slice_get (registers net) n ≡ Some k → front_word net state k ≡ slice_index state n
   word_of_place n k e =
       let within : n < length (registers net) = slice_get_within (registers net) n k e in
@@ -52,8 +53,13 @@ module _ (law : HasItsType) (net : FlatNet) (whole : IsNet net) (state : List �
 
     register_met : (k : ℕ) (l : Leaf) (d : Register) → slice_get net.leaves k ≡ Some l → l.role ≡ role.Register d → nat_eq l.width 0 ≡ false → env k ≡ shown net env l.width d.reset (front_word net state k)
     register_met k l d at is bits =
-        let found = word_at whole.state k l d at is bits in
+        let found = word_at whole.state k l at (ap is_state is) bits in
         s.registers_show found.0 k l d found.1 at is ∙ ap (shown net env l.width d.reset) (sym (word_of_place found.0 k found.1))
+
+    pipe_met : (k : ℕ) (l : Leaf) (p : Pipe) → slice_get net.leaves k ≡ Some l → l.role ≡ role.Pipe p → nat_eq l.width 0 ≡ false → env k ≡ front_word net state k
+    pipe_met k l p at is bits =
+        let found = word_at whole.state k l at (ap is_state is) bits in
+        s.pipes_show found.0 k l p found.1 at is ∙ sym (word_of_place found.0 k found.1)
 
     role_met : (k : ℕ) (l : Leaf) (r : Role) → slice_get net.leaves k ≡ Some l → l.role ≡ r → is_clock r ≡ false → nat_eq l.width 0 ≡ false → env k ≡ role_value net state tick env k l.width r
     role_met k l role.Input at is plain bits = input_met k l at is bits
@@ -62,6 +68,7 @@ module _ (law : HasItsType) (net : FlatNet) (whole : IsNet net) (state : List �
     role_met k l (role.Wire r) at is plain bits = s.driven k l r at (ap driver is)
     role_met k l (role.Register d) at is plain bits = register_met k l d at is bits
     role_met k l (role.Reading r) at is plain bits = s.arrays_read k l r at is
+    role_met k l (role.Pipe p) at is plain bits = pipe_met k l p at is bits
     role_met k l (role.ClockOutput c) at is plain bits = cc
     role_met k l (role.ClockWire c) at is plain bits = cc
 
@@ -82,6 +89,7 @@ module _ (law : HasItsType) (net : FlatNet) (whole : IsNet net) (state : List �
     role_clock_met k l (role.Wire r) at is ticking = cc
     role_clock_met k l (role.Register d) at is ticking = cc
     role_clock_met k l (role.Reading r) at is ticking = cc
+    role_clock_met k l (role.Pipe p) at is ticking = cc
     role_clock_met k l (role.ClockOutput c) at is ticking = s.clocks_driven k l c at (ap clock_driver is)
     role_clock_met k l (role.ClockWire c) at is ticking = s.clocks_driven k l c at (ap clock_driver is)
 
@@ -117,6 +125,7 @@ module _ (law : HasItsType) (net : FlatNet) (whole : IsNet net) (state : List �
     role_driven k l (role.Wire q) r at is e = let same : q ≡ r = cc in value_of k l (role.Wire q) at is refl ∙ ap (λ (p : Read). at_width (value_at net env p) l.width) same
     role_driven k l (role.Register d) r at is e = cc
     role_driven k l (role.Reading q) r at is e = cc
+    role_driven k l (role.Pipe p) r at is e = cc
     role_driven k l (role.ClockOutput c) r at is e = cc
     role_driven k l (role.ClockWire c) r at is e = cc
 
@@ -127,6 +136,7 @@ module _ (law : HasItsType) (net : FlatNet) (whole : IsNet net) (state : List �
     clock_driven k l (role.Wire q) c at is e = cc
     clock_driven k l (role.Register d) c at is e = cc
     clock_driven k l (role.Reading q) c at is e = cc
+    clock_driven k l (role.Pipe p) c at is e = cc
     clock_driven k l (role.ClockOutput b) c at is e = let same : b ≡ c = cc in clock_of k l (role.ClockOutput b) at is refl ∙ ap (driven_clock clock) same
     clock_driven k l (role.ClockWire b) c at is e = let same : b ≡ c = cc in clock_of k l (role.ClockWire b) at is refl ∙ ap (driven_clock clock) same
 
@@ -136,6 +146,7 @@ module _ (law : HasItsType) (net : FlatNet) (whole : IsNet net) (state : List �
       fits = fit.each;
       input_values = values_at_places (leaf_width net.leaves) env (inputs net) tick.inputs shaped.inputs_fit input_given;
       registers_show = register_shows;
+      pipes_show = λ n k l p e at is. value_of k l (role.Pipe p) at is refl ∙ word_of_place n k e;
       arrays_read = λ k l r at is. value_of k l (role.Reading r) at is refl;
       driven = λ k l r at e. role_driven k l l.role r at refl e;
       clock_inputs = clock_given;

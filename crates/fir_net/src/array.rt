@@ -24,8 +24,18 @@ pub struct ArrayWrite {
     pub condition: Read,
     /// The number of the word, from 0.
     pub address: Read,
-    /// The word that is written, fitted to the width of the array's words.
+    /// The word that is written, of the type of the array's words.
     pub given: Read,
+}
+
+/// What a register takes of an array at an edge of a clock.
+#[derive(Clone, Copy, PartialEq, Eq)]
+pub struct Pipe {
+    /// A clock's leaf.
+    pub clock: LeafId,
+    pub read: ArrayRead,
+    /// Whether it takes the word as it is after all writes of the edge, and not as it was before them.
+    pub is_new: bool,
 }
 
 /// An array. Of two writes of one word at one edge the later one counts.
@@ -33,6 +43,8 @@ pub struct ArrayWrite {
 pub struct Array {
     /// Its path in the circuit as it is printed: that of its memory, and behind it that of the data's leaf.
     pub path: Name,
+    /// Whether its words are read as signed.
+    pub signed: bool,
     /// The width of its words in bits.
     pub width: u32,
     /// How many words it has.

@@ -1,6 +1,6 @@
 //! Leaves: what a circuit declares, one ground value each.
 
-use crate::array::ArrayRead;
+use crate::array::{ArrayRead, Pipe};
 use crate::reads::Read;
 use fir_ast::{LeafId, Place};
 use fir_base::Name;
@@ -49,6 +49,8 @@ pub enum Role {
     Register(Register),
     /// The data of a memory's port that reads at once: a word of the state.
     Reading(ArrayRead),
+    /// The data of a memory's port that reads late: a word of the state, which it read at the last edge of its clock.
+    Pipe(Pipe),
     /// An output port of a clock: another clock's leaf, or no clock.
     ClockOutput(Option<LeafId>),
     /// A wire or a node of a clock: another clock's leaf, or no clock.

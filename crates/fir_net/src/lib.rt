@@ -14,7 +14,7 @@ mod reads;
 mod sharing;
 mod totals;
 
-pub use array::{Array, ArrayRead, ArrayWrite};
+pub use array::{Array, ArrayRead, ArrayWrite, Pipe};
 pub use counting::counts;
 pub use leaf::{Leaf, Register, Reset, ResetKind, Role};
 pub use net::FlatNet;

@@ -7,8 +7,8 @@ use fir_ast::LeafId;
 use fir_base::{Name, Seq};
 
 /// A net: the circuit's name; the leaves, which are the ports in their order and then all others; the nodes,
-/// each behind the nodes that it reads; the words of the state in their order, which are the registers that
-/// have bits; and the arrays, with the order in which the state has them behind these words: those that have
+/// each behind the nodes that it reads; the words of the state in their order, which are the registers and
+/// pipes that have bits; and the arrays, with the order in which the state has them behind these words: those that have
 /// bits, by their numbers. What drives a leaf may stand anywhere.
 pub struct FlatNet {
     pub name: Name,

@@ -6,11 +6,12 @@ use Rattle.fir_base.proofs.Elements.{number_of}
 use Rattle.fir_base.proofs.Members.{in_either}
 use Rattle.fir_base.proofs.Twins.{distinct_joined}
 use Rattle.fir_net.specs.declared.leaf.Role.{Role}
+use Rattle.fir_net.specs.declared.leaf.Role.TheVariants as role
 use Rattle.fir_net.specs.declared.leaf.Leaf.{Leaf}
 use Rattle.fir_net.specs.declared.net.FlatNet.{FlatNet}
-use Rattle.fir_net.specs.working.IsNet.{is_port, IsNet}
+use Rattle.fir_net.specs.working.IsNet.{is_port, is_state, IsNet}
 use Rattle.fir_net.proofs.NumberedLeaves.{GivesOwn, leaf_at, distinct_numbers}
-use Rattle.fir_net.proofs.StateWords.{register_at}
+use Rattle.fir_net.proofs.StateWords.{state_at}
 use Rattle.fir_net_names.specs.working.LeafNamed.{port_number, named_ports, named_leaves}
 
 -- a port that has bits gives its number, and no other leaf
@@ -57,6 +58,18 @@ port_at leaves k m =
     let is = gives_port (is_port found.0.role) (nat_eq found.0.width 0) k found.2 in
     record { leaf = found.0; at = found.1; port = is.0; bits = is.1 }
 
+-- what is state is no port
+no_port : (r : Role) → is_state r ≡ true → is_port r ≡ false
+no_port role.Input e = cc
+no_port role.Clock e = cc
+no_port (role.Output r) e = cc
+no_port (role.Wire r) e = cc
+no_port (role.Register d) e = refl
+no_port (role.Reading r) e = cc
+no_port (role.Pipe p) e = refl
+no_port (role.ClockOutput c) e = cc
+no_port (role.ClockWire c) e = cc
+
 pub ports_distinct : (leaves : List Leaf) → Distinct (named_ports 0 leaves)
 ports_distinct leaves = distinct_numbers port_number ports_own leaves 0
 
@@ -66,7 +79,7 @@ module _ (net : FlatNet) (whole : IsNet net) where
   named_leaf k m =
       ⊎_elim
       (λ (p : In (named_ports 0 net.leaves) k). let found = port_at net.leaves k p in (found.leaf, found.at))
-      (λ (s : In net.state k). let place = number_of net.state k s in let found = register_at whole.state place.0 k place.1 in (found.leaf, found.at))
+      (λ (s : In net.state k). let place = number_of net.state k s in let found = state_at whole.state place.0 k place.1 in (found.leaf, found.at))
       (in_either (named_ports 0 net.leaves) net.state k m)
 
   -- no port is a word of the state
@@ -74,10 +87,10 @@ module _ (net : FlatNet) (whole : IsNet net) where
   port_is_no_word k p s =
       let port = port_at net.leaves k p in
       let place = number_of net.state k s in
-      let word = register_at whole.state place.0 k place.1 in
+      let word = state_at whole.state place.0 k place.1 in
       let same : Some port.leaf ≡ Some word.leaf = sym port.at ∙ word.at in
       let one : port.leaf ≡ word.leaf = cc in
-      let no : is_port word.leaf.role ≡ false = ap is_port word.is in
+      let no : is_port word.leaf.role ≡ false = no_port word.leaf.role word.is in
       let yes : is_port word.leaf.role ≡ true = ap (λ (l : Leaf). is_port l.role) (sym one) ∙ port.port in
       cc
 

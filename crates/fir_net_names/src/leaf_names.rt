@@ -84,7 +84,8 @@ fn is_named_port(leaf: &Leaf) -> bool
     ensures { result ≡ (is_port leaf.now.role && not (nat_eq leaf.now.width 0)) }
 {
     match leaf.role {
-        Role::Register(_) | Role::Reading(_) | Role::Wire(_) | Role::ClockWire(_) => false,
+        Role::Register(_) | Role::Reading(_) | Role::Pipe(_) | Role::Wire(_) | Role::ClockWire(_) =>
+            false,
         _ => leaf.width != 0,
     }
 }

@@ -1,5 +1,5 @@
 -- What bytes are emitted for what bytes.
--- The read bytes spell exactly one circuit, which shows no fault and is in the language; the written bytes spell exactly one Verilog tree, and it is what the
+-- The read bytes spell exactly one circuit, which shows no fault; the written bytes spell exactly one Verilog tree, and it is what the
 -- circuit compiles to; and they are the layout of that tree, in which no comment stands.
 use Rattle.std.specs.Prelude.{◌≡◌, ℕ, List}
 use Rattle.ver_ast.specs.declared.tree.Verilog.{Verilog}
@@ -8,13 +8,12 @@ use Rattle.ver_emit.specs.Layout.{layout}
 use Rattle.ver_emit.specs.Comments.{HasNoComment}
 use Rattle.fir_ast.specs.Circuits.{CircuitTree}
 use Rattle.fir_parse.specs.Spells.{Spells}
-use Rattle.fir_outcome.specs.CircuitFaults.{LacksNone, ShowsNone}
+use Rattle.fir_outcome.specs.CircuitFaults.{ShowsNone}
 use Rattle.fir_outcome.specs.Compiles.{Compiles}
 
 -- the circuit of a text that is taken
 pub record Takes (bytes : List ℕ) (c : CircuitTree) : Type 0 where
   pub spelled : Spells bytes c
-  pub in_language : LacksNone c
   pub faultless : ShowsNone c
 
 pub record Emits (read written : List ℕ) : Type 0 where

@@ -1,5 +1,5 @@
 -- The passes of a tick in turn: what each finds, and that they make a tick.
-use Rattle.std.proofs.Common.{◌≡◌, ℕ, ◌≤◌, List, length, map, sym, ap, ap₂, ◌∙◌, subst}
+use Rattle.std.proofs.Common.{◌≡◌, ℕ, ◌≤◌, Bool, List, length, map, sym, ap, ap₂, ◌∙◌, subst}
 use Rattle.std.specs.List.{AllByRecursion}
 use Rattle.std.proofs.lemmas.List.{length-map}
 use Rattle.fir_base.specs.Ticks.{FitEach, Tick}
@@ -8,6 +8,7 @@ use Rattle.fir_bits.specs.working.Laws.{HasItsType}
 use Rattle.fir_net.specs.declared.net.FlatNet.{FlatNet}
 use Rattle.fir_net.specs.working.Laws.{NodesHaveTheirTypes}
 use Rattle.fir_net.specs.working.Settled.{shape}
+use Rattle.fir_tick.specs.declared.pipe_plans.PipePlan.{PipePlan}
 use Rattle.fir_tick.specs.declared.plan.Plan.{Plan}
 use Rattle.fir_tick.specs.declared.steps.Step.{Step}
 use Rattle.fir_tick.specs.declared.values.Values.{Values}
@@ -16,7 +17,10 @@ use Rattle.fir_tick.specs.working.Views.{numbers, IsTickOf}
 use Rattle.fir_tick.specs.working.Settling.{IsSettled}
 use Rattle.fir_tick.specs.working.ArrayWrites.{after_edges, CanWrite}
 use Rattle.fir_tick.specs.working.Passes.{with_inputs, with_state, CanTake, IsPlaced, IsShown, IsWithin, output_value}
+use Rattle.fir_tick.specs.working.PipePlans.{ArePipePlans}
+use Rattle.fir_tick.specs.working.PipeReads.{CanPipe}
 use Rattle.fir_sim.specs.working.Running.{IsRunning}
+use Rattle.fir_sim.proofs.PipesCan.{pipes_can}
 use Rattle.fir_sim.proofs.PlanFacts.{registers_placed, inputs_within, outputs_can_be_shown}
 use Rattle.fir_sim.proofs.Ticking.{state_fits, state_put, inputs_put, outputs_room, state_room, IsTicked}
 use Rattle.fir_sim.proofs.Words.{registers_can}
@@ -68,6 +72,11 @@ module _ (net : FlatNet) (steps : List Step) (p : Plan) (tick : Tick) (is_tick :
           writes4 has types =
               writes_can net running.plan.roots p.writes.items running.plan.writes tick.clocks v4.numbers.items has types running.whole (subst (IsHeld net) (sym numbers4) settled3.held)
               (numbers v0.state.items) (state_fits net steps p v0 running) (length v4.state.items) (length-map v0.state.items (λ (v : BitVector). v.number) ∙ ap length (sym state4))
+
+          pub pipes4 : (is_new : Bool) (ps : List PipePlan) → ArePipePlans net running.plan.roots is_new 0 net.state ps → AllByRecursion (CanPipe (length v4.state.items)) ps
+          pipes4 is_new ps are =
+              pipes_can net running.whole running.plan.roots is_new ps are (numbers v0.state.items) (state_fits net steps p v0 running) (length v4.state.items)
+              (length-map v0.state.items (λ (v : BitVector). v.number) ∙ ap length (sym state4))
 
           pub room4 : length p.registers.items ≤ length v4.state.items
           room4 = subst (λ (vs : List BitVector). length p.registers.items ≤ length vs) (sym state4) (state_room net steps p v0 running)

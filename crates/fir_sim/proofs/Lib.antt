@@ -11,3 +11,8 @@ pub mod Written
 pub mod WritesCan
 pub mod OneArray
 pub mod ArraysTaken
+pub mod Stages
+pub mod PipesTaken
+pub mod WordsLeft
+pub mod PipesCan
+pub mod PipeWords

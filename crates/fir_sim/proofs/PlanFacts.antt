@@ -6,7 +6,6 @@ use Rattle.std.proofs.lemmas.List.{map-id}
 use Rattle.std.proofs.lemmas.Option.{slice_get_within}
 use Rattle.fir_bits.specs.declared.types.NumTy.{NumTy}
 use Rattle.fir_net.specs.declared.reads.Read.TheVariants as read
-use Rattle.fir_net.specs.declared.leaf.Register.{Register}
 use Rattle.fir_net.specs.declared.leaf.Role.TheVariants as role
 use Rattle.fir_net.specs.declared.leaf.Leaf.{Leaf}
 use Rattle.fir_net.specs.declared.net.FlatNet.{FlatNet}
@@ -21,16 +20,16 @@ use Rattle.fir_tick.specs.declared.plan.RegisterPlan.{RegisterPlan}
 use Rattle.fir_tick.specs.declared.plan.Plan.{Plan}
 use Rattle.fir_work.specs.working.Held.{IsHeld}
 use Rattle.fir_tick.specs.working.Views.{output_widths}
-use Rattle.fir_tick.specs.working.Plans.{IsPlan, IsRegisterPlan}
+use Rattle.fir_tick.specs.working.Plans.{IsPlan, IsRegisterPlan, TakesBy}
 use Rattle.fir_tick.specs.working.Passes.{input_leaf, input_width, output_width, register_leaf, register_width, IsWithin, IsPlaced, IsShown, IsNarrowOutput}
 use Rattle.fir_work.proofs.HeldNumbers.{place_within}
 use Rattle.fir_tick.proofs.Lists.{pairs_left, pairs_right, pairs_same}
 use Rattle.fir_sim.proofs.Placings.{Apart}
 use Rattle.fir_sim.proofs.PlanPairs.{IsInput, IsOutput, inputs_paired, outputs_paired}
 
--- a leaf is not both
-clash : (o : Option Leaf) (a b : Leaf) (d : Register) → o ≡ Some a → o ≡ Some b → a.role ≡ role.Input → b.role ≡ role.Register d → ⊥
-clash o a b d e f g h = cc
+-- an input takes no word
+clash : (net : FlatNet) (roots : List (Option ℕ)) (q : RegisterPlan) (o : Option Leaf) (a b : Leaf) → o ≡ Some a → o ≡ Some b → a.role ≡ role.Input → TakesBy net roots q b.role → ⊥
+clash net roots q o a b e f g takes = let is : b.role ≡ role.Input = cc in subst (TakesBy net roots q) is takes
 
 module _ (net : FlatNet) (whole : IsNet net) (p : Plan) (plan : IsPlan net p) where
   pub input_pairs : AllZip (IsInput net) p.inputs.items (inputs net)
@@ -90,12 +89,12 @@ module _ (net : FlatNet) (whole : IsNet net) (p : Plan) (plan : IsPlan net p) wh
   pub register_leaves_there : AllByRecursion (λ k. k < length net.leaves) (registers net)
   register_leaves_there = pairs_right (IsRegisterPlan net plan.roots) (λ k. k < length net.leaves) (λ q k i. slice_get_within net.leaves k i.leaf i.at) p.registers.items (registers net) register_pairs
 
-  -- no register is an input
+  -- no register and no pipe is an input
   pub registers_apart : AllByRecursion (λ k. Apart k (inputs net)) (registers net)
   registers_apart = pairs_right (IsRegisterPlan net plan.roots) (λ k. Apart k (inputs net)) apart p.registers.items (registers net) register_pairs
     where
       apart : (q : RegisterPlan) (k : ℕ) → IsRegisterPlan net plan.roots q k → Apart k (inputs net)
       apart q k r =
           pairs_right (IsInput net) (λ n. n ≡ k → ⊥)
-          (λ j n i e. clash (slice_get net.leaves k) i.leaf r.leaf r.register (subst (λ (m : ℕ). slice_get net.leaves m ≡ Some i.leaf) e i.at) r.at i.kind r.kind)
+          (λ j n i e. clash net plan.roots q (slice_get net.leaves k) i.leaf r.leaf (subst (λ (m : ℕ). slice_get net.leaves m ≡ Some i.leaf) e i.at) r.at i.kind r.takes)
           p.inputs.items (inputs net) input_pairs

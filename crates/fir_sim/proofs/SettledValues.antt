@@ -1,5 +1,5 @@
 -- Held numbers that are settled are settled values of the net.
-use Rattle.std.proofs.Common.{◌≡◌, ℕ, List, [], ◌∷◌, length, map, take, refl, sym, ap, ◌∙◌, Bool, false, nat_lt, ◌&&◌, if◌then◌else◌, option_map, unwrap_or}
+use Rattle.std.proofs.Common.{◌≡◌, ℕ, List, [], ◌∷◌, length, map, take, refl, sym, ap, ◌∙◌, Bool, nat_lt, ◌&&◌, if◌then◌else◌, slice_index, option_map, unwrap_or}
 use Rattle.std.specs.Prelude.{slice_get, Option, Some, None}
 use Rattle.std.specs.List.{AllByRecursion}
 use Rattle.std.proofs.lemmas.List.{get_or-take}
@@ -22,7 +22,7 @@ use Rattle.fir_net.specs.declared.node.Node.{Node}
 use Rattle.fir_net.specs.declared.net.FlatNet.{FlatNet}
 use Rattle.fir_net.specs.working.Arrays.{begin_of, word_in, words_of}
 use Rattle.fir_net.specs.working.Values.{at_width, number_of}
-use Rattle.fir_net.specs.working.IsNet.{node_type, CanRead, CanBeReset, IsNet, IsRole}
+use Rattle.fir_net.specs.working.IsNet.{node_type, CanRead, CanBeReset, IsAddressed, IsNet}
 use Rattle.fir_bits.specs.Forms.{no_type}
 use Rattle.fir_net.specs.working.Laws.{NodesHaveTheirTypes, NodesHaveTheirValues}
 use Rattle.fir_net.specs.working.Settled.{value_at, driver, shown_by, shown, is_high, word_read, inputs, registers, shape, Settled}
@@ -82,13 +82,13 @@ module _ (has : HasItsType) (types : NodesHaveTheirTypes) (law : NodesHaveTheirV
   register_shown w signed (Some r) now can = under_shown w r.kind r.condition r.init now can.condition can.init.can
 
   -- what is read of an array
-  word_is : (a b : Num) (n : ℕ) (e f : Bool) (o : Option ℕ) → a ≡ b → e ≡ f
-      → (if e && nat_lt a.value.number n then word_in state o a.value.number else 0) ≡ (if f && nat_lt b.value.number n then word_in state o b.value.number else 0)
-  word_is a b n e f o p q = rw (p, q) refl
+  word_is : (words : List ℕ) (a b : Num) (n : ℕ) (e f : Bool) (o : Option ℕ) → a ≡ b → e ≡ f
+      → (if e && nat_lt a.value.number n then word_in words o a.value.number else 0) ≡ (if f && nat_lt b.value.number n then word_in words o b.value.number else 0)
+  word_is words a b n e f o p q = rw (p, q) refl
 
-  same_word : (w : ℕ) (r : ArrayRead) → IsRole net.leaves net.nodes false w (role.Reading r) → held_word net state value r ≡ word_read net state env r
-  same_word w r is =
-      word_is (value r.address) (value_at net env r.address) (words_of net.arrays r.array) (is_one (value r.enable)) (is_high net env r.enable) (begin_of net r.array) (same_read r.address is.address) (same_high r.enable is.enable)
+  pub same_word : (words : List ℕ) (r : ArrayRead) → IsAddressed net.leaves net.nodes r.address r.enable → held_word net words value r ≡ word_read net words env r
+  same_word words r is =
+      word_is words (value r.address) (value_at net env r.address) (words_of net.arrays r.array) (is_one (value r.enable)) (is_high net env r.enable) (begin_of net r.array) (same_read r.address is.address) (same_high r.enable is.enable)
 
   -- each leaf has what its role gives it
   leaf_is : (k : ℕ) (l : Leaf) (r : Role) → slice_get net.leaves k ≡ Some l → l.role ≡ r → env k ≡ held_role net state value l.width (number_at start k) r
@@ -104,8 +104,14 @@ module _ (has : HasItsType) (types : NodesHaveTheirTypes) (law : NodesHaveTheirV
   role_driven k l (role.Wire q) r at is e = let same : q ≡ r = cc in leaf_is k l (role.Wire q) at is ∙ same_fitted l.width q (driven_at net whole k l (role.Wire q) at is).can ∙ ap (λ (p : Read). at_width (value_at net env p) l.width) same
   role_driven k l (role.Register d) r at is e = cc
   role_driven k l (role.Reading a) r at is e = cc
+  role_driven k l (role.Pipe p) r at is e = cc
   role_driven k l (role.ClockOutput c) r at is e = cc
   role_driven k l (role.ClockWire c) r at is e = cc
+
+  -- a register or a pipe begins at its word
+  word_kept : map (number_at start) (registers net) ≡ take (length (registers net)) state → (n k : ℕ) → slice_get (registers net) n ≡ Some k → number_at start k ≡ slice_index state n
+  word_kept kept n k e =
+      value_at_place (number_at start) (registers net) (take (length (registers net)) state) kept n k e ∙ get_or-take (length (registers net)) state n 0 (slice_get_within (registers net) n k e)
 
   pub settles : (roots : List (Option ℕ)) → AreRoots net roots → (tick : Tick) → IsTickOf net tick → FitEach (shape net).state state → map (number_at start) (inputs net) ≡ tick.inputs → map (number_at start) (registers net) ≡ take (length (registers net)) state
       → Settled net state tick env (root_at roots)
@@ -115,9 +121,9 @@ module _ (has : HasItsType) (types : NodesHaveTheirTypes) (law : NodesHaveTheirV
     input_values = map_same env (number_at start) (inputs net) (pairs_right (IsInput net) (λ k. env k ≡ number_at start k) input_kept _ (inputs net) (inputs_paired net whole)) ∙ given;
     registers_show = λ n k l d e at is_d.
         leaf_is k l (role.Register d) at is_d ∙ register_shown l.width l.signed d.reset (number_at start k) (driven_at net whole k l (role.Register d) at is_d).1
-        ∙ ap (shown net env l.width d.reset)
-        (value_at_place (number_at start) (registers net) (take (length (registers net)) state) kept n k e ∙ get_or-take (length (registers net)) state n 0 (slice_get_within (registers net) n k e));
-    arrays_read = λ k l r at is_r. leaf_is k l (role.Reading r) at is_r ∙ same_word l.width r (driven_at net whole k l (role.Reading r) at is_r);
+        ∙ ap (shown net env l.width d.reset) (word_kept kept n k e);
+    pipes_show = λ n k l p e at is_p. leaf_is k l (role.Pipe p) at is_p ∙ word_kept kept n k e;
+    arrays_read = λ k l r at is_r. leaf_is k l (role.Reading r) at is_r ∙ same_word state r (driven_at net whole k l (role.Reading r) at is_r);
     driven = λ k l r at e. role_driven k l l.role r at refl e;
     clock_inputs = are.inputs;
     clocks_driven = are.driven;

@@ -1,4 +1,4 @@
--- What the simulator begins with: each leaf, node and output at 0, and the registers at the words of the state.
+-- What the simulator begins with: each leaf, node and output at 0, and registers and pipes at the words of the state.
 use Rattle.std.proofs.Common.{◌≡◌, ℕ, ◌+◌, ◌≤◌, List, [], ◌∷◌, length, map, replicate, refl, sym, ap, ◌∙◌, subst}
 use Rattle.std.specs.List.{AllByRecursion}
 use Rattle.std.proofs.Math.Pow.{pow_pos}

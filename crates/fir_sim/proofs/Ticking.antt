@@ -1,5 +1,5 @@
 -- What the passes of a tick leave, one behind the other: the values that a net allows, and what the simulator keeps.
-use Rattle.std.proofs.Common.{◌≡◌, ℕ, ◌+◌, ◌<◌, ◌≤◌, List, [], ◌∷◌, ◌++◌, length, map, take, drop, slice_index, Option, refl, sym, ap, ap₂, ◌∙◌, subst, arith, length-append}
+use Rattle.std.proofs.Common.{◌≡◌, ℕ, ◌+◌, ◌<◌, ◌≤◌, List, [], ◌∷◌, ◌++◌, length, map, take, drop, slice_index, Bool, true, false, Option, refl, sym, ap, ap₂, ◌∙◌, subst, arith, length-append}
 use Rattle.std.specs.List.{AllByRecursion}
 use Rattle.std.proofs.Math.Seq.{drop-append_seam}
 use Rattle.std.proofs.lemmas.List.{length-map, length-drop, map-append, drop-map, get_or-drop}
@@ -9,7 +9,7 @@ use Rattle.fir_bits.specs.Values.{BitVector, IsBitVector}
 use Rattle.fir_bits.specs.working.Laws.{HasItsType}
 use Rattle.fir_net.specs.declared.net.FlatNet.{FlatNet}
 use Rattle.fir_net.specs.working.Arrays.{array_widths, begin_from}
-use Rattle.fir_net.specs.working.Next.{next, next_word, words_next}
+use Rattle.fir_net.specs.working.Next.{next, arrays_next}
 use Rattle.fir_net.specs.working.Values.{leaf_width}
 use Rattle.fir_net.specs.working.IsNet.{IsNet}
 use Rattle.fir_net.specs.working.Laws.{NodesHaveTheirTypes, NodesHaveTheirValues}
@@ -25,8 +25,9 @@ use Rattle.fir_work.specs.working.Held.{IsHeld}
 use Rattle.fir_tick.specs.working.Views.{numbers, widths, output_widths, IsTickOf}
 use Rattle.fir_tick.specs.working.Plans.{IsPlan}
 use Rattle.fir_tick.specs.working.Roots.{root_at}
-use Rattle.fir_tick.specs.working.ArrayWrites.{after_edges}
+use Rattle.fir_tick.specs.working.ArrayWrites.{after_edges, written}
 use Rattle.fir_tick.specs.working.Passes.{placed, with_inputs, with_state, output_width, register_width, output_value, register_value}
+use Rattle.fir_tick.specs.working.PipeReads.{piped}
 use Rattle.fir_tick.specs.working.Settling.{IsSettled}
 use Rattle.fir_sim.specs.working.Running.{IsRunning}
 use Rattle.fir_tick.proofs.Fits.{fit_count}
@@ -34,7 +35,11 @@ use Rattle.fir_tick.proofs.Lists.{map_both}
 use Rattle.fir_sim.proofs.ArraysTaken.{arrays_put}
 use Rattle.fir_sim.proofs.Placings.{placed_front, placed_held, placed_here, placed_elsewhere, inputs_placed, state_placed, whole_fit}
 use Rattle.fir_sim.proofs.PlanFacts.{input_leaves, input_leaves_there, register_leaves, register_leaves_there, shown_widths, register_widths, registers_apart}
+use Rattle.fir_sim.proofs.PipesCan.{pipes_keep}
+use Rattle.fir_sim.proofs.PipesTaken.{all_taken, piped_numbers, piped_widths}
+use Rattle.fir_sim.proofs.PipeWords.{new_pipes_take, old_pipes_take}
 use Rattle.fir_sim.proofs.SettledValues.{settles}
+use Rattle.fir_sim.proofs.Stages.{last_words, no_pipes, old_pipes, stage}
 use Rattle.fir_sim.proofs.Words.{outputs_shown, words_taken}
 use Rattle.fir_sim.proofs.WritesCan.{writes_keep}
 use Rattle.fir_sim.proofs.Written.{put_all, written_numbers, written_widths}
@@ -64,7 +69,7 @@ module _ (net : FlatNet) (whole : IsNet net) (p : Plan) (plan : IsPlan net p) (n
     state_kept = ap (λ (h : List ℕ). map (number_at h) (registers net)) is_placed ∙ placed_elsewhere (inputs net) vs ns (registers net) (registers_apart net whole p plan)
 
   module _ (words : List BitVector) (fit : FitEach (shape net).state (numbers words)) where
-    -- the words of the registers
+    -- the words of registers and pipes
     abbrev front : List ℕ
     front = take (length (registers net)) (numbers words)
 
@@ -86,7 +91,7 @@ numbers_of f ps = map_both f (λ v. v.number) ps
 pub widths_of : {P : Type 0} → (f : P → BitVector) (ps : List P) → widths (map f ps) ≡ map (λ q. (f q).width) ps
 widths_of f ps = map_both f (λ v. v.width) ps
 
--- a tick: the words of registers and the inputs are put, all is settled, and outputs and the words of the next state come from it
+-- a tick: the words of registers and pipes and the inputs are put, all is settled, and outputs and the words of the next state come from it
 pub record IsTicked (net : FlatNet) (p : Plan) (tick : Tick) (before after : Values) (start : List ℕ) : Type 0 where
   pub put : start ≡ with_inputs p.inputs.items tick.inputs (with_state p.registers.items before.state.items before.numbers.items)
   pub settled : IsSettled net (numbers before.state.items) start after.numbers.items
@@ -106,7 +111,7 @@ module _ (net : FlatNet) (steps : List Step) (p : Plan) (v : Values) (running : 
   pub outputs_room : length v.outputs.items ≡ length p.outputs.items
   outputs_room = sym (length-map v.outputs.items (λ x. x.width)) ∙ ap length (running.view.outputs ∙ sym (shown_widths net running.whole p running.plan)) ∙ length-map p.outputs.items output_width
 
-  -- the registers stand in front of the state
+  -- registers and pipes stand in front of the state
   pub registers_count : length p.registers.items ≡ length (map (leaf_width net.leaves) (registers net))
   registers_count = sym (length-map p.registers.items register_width) ∙ ap length (register_widths net running.whole p running.plan)
 
@@ -149,10 +154,28 @@ module _ (net : FlatNet) (steps : List Step) (p : Plan) (tick : Tick) (is_tick :
       (sym (drop-map (λ (v : BitVector). v.width) count before.state.items) ∙ ap (drop count) running.view.state
       ∙ ap (λ (n : ℕ). drop n (shape net).state) (registers_count net steps p before running) ∙ drop-append_seam (map (leaf_width net.leaves) (registers net)) (array_widths net))
 
+  -- when the pipes have theirs that take old words of arrays
+  abbrev old_piped : List BitVector
+  old_piped = piped ns tick.clocks p.before_writes.items registered
+
+  old_piped_wide : widths old_piped ≡ (shape net).state
+  old_piped_wide =
+      piped_widths ns tick.clocks (shape net).state p.before_writes.items registered
+      (pipes_keep net running.whole running.plan.roots false p.before_writes.items running.plan.before_writes tick.clocks ns) registered_wide
+
+  -- and when all writes are done
+  abbrev all_written : List BitVector
+  all_written = written net ns tick.clocks p.writes.items old_piped
+
+  all_written_wide : widths all_written ≡ (shape net).state
+  all_written_wide =
+      written_widths net ns tick.clocks (shape net).state p.writes.items old_piped (writes_keep net running.plan.roots p.writes.items running.plan.writes tick.clocks ns) old_piped_wide
+
   state_wide : widths after.state.items ≡ (shape net).state
   state_wide =
       ap widths t.state
-      ∙ written_widths net ns tick.clocks (shape net).state p.writes.items registered (writes_keep net running.plan.roots p.writes.items running.plan.writes tick.clocks ns) registered_wide
+      ∙ piped_widths ns tick.clocks (shape net).state p.after_writes.items all_written
+      (pipes_keep net running.whole running.plan.roots true p.after_writes.items running.plan.after_writes tick.clocks ns) all_written_wide
 
   outputs_wide : widths after.outputs.items ≡ output_widths net
   outputs_wide = ap widths t.outputs ∙ widths_of (output_value after.numbers.items) p.outputs.items ∙ shown_widths net running.whole p running.plan
@@ -179,37 +202,51 @@ module _ (net : FlatNet) (steps : List Step) (p : Plan) (tick : Tick) (is_tick :
     abbrev old : List ℕ
     old = numbers before.state.items
 
-    abbrev registers_next : List ℕ
-    registers_next = words_next net (number_at ns) (root_at roots) tick
+    -- the words of registers and pipes, of which these pipes have theirs
+    abbrev words_at : (Bool → Bool) → List ℕ
+    words_at done = map (stage net (number_at ns) (root_at roots) tick.clocks old done) (registers net)
 
-    next_long : length registers_next ≡ length net.state
-    next_long = length-map (registers net) (next_word net (number_at ns) (root_at roots) tick.clocks)
+    words_long : length (words_at old_pipes) ≡ length net.state
+    words_long = length-map (registers net) (stage net (number_at ns) (root_at roots) tick.clocks old old_pipes)
 
-    count_is : count ≡ length registers_next
-    count_is = registers_count net steps p before running ∙ length-map (registers net) (leaf_width net.leaves) ∙ sym next_long
+    count_is : count ≡ length net.state
+    count_is = registers_count net steps p before running ∙ length-map (registers net) (leaf_width net.leaves)
 
-    arrays_long : length (drop count old) ≡ length (array_widths net)
+    arrays_long : length (drop (length net.state) old) ≡ length (array_widths net)
     arrays_long =
-        let cut = length-drop count old in
+        let cut = length-drop (length net.state) old in
         let long = length-map before.state.items (λ (v : BitVector). v.number) in
         let all = state_long net steps p before running in
         let front = registers_count net steps p before running in
+        let same = count_is in
         omega arith
 
-    registered_numbers : numbers registered ≡ registers_next ++ drop count old
+    registered_numbers : numbers registered ≡ words_at no_pipes ++ drop (length net.state) old
     registered_numbers =
         map-append (λ (v : BitVector). v.number) (map (register_value net ns tick.clocks) p.registers.items) (drop count before.state.items)
         ∙ ap₂ (λ (ms ks : List ℕ). ms ++ ks)
         (numbers_of (register_value net ns tick.clocks) p.registers.items ∙ words_taken has types law net running.whole old start ns t.settled roots tick p.registers.items running.plan.registers)
-        (sym (drop-map (λ (v : BitVector). v.number) count before.state.items))
+        (sym (drop-map (λ (v : BitVector). v.number) count before.state.items) ∙ ap (λ (n : ℕ). drop n old) count_is)
+
+    old_piped_numbers : numbers old_piped ≡ words_at old_pipes ++ drop (length net.state) old
+    old_piped_numbers =
+        piped_numbers ns tick.clocks p.before_writes.items registered ∙ ap (all_taken ns tick.clocks p.before_writes.items) registered_numbers
+        ∙ old_pipes_take has types law net running.whole old start ns t.settled roots tick.clocks p.before_writes.items running.plan.before_writes
+
+    all_written_numbers : numbers all_written ≡ words_at old_pipes ++ arrays_next net (number_at ns) (root_at roots) tick.clocks old
+    all_written_numbers =
+        written_numbers net ns tick.clocks p.writes.items old_piped ∙ ap (put_all net ns tick.clocks p.writes.items) old_piped_numbers
+        ∙ arrays_put has types law net running.whole old start ns t.settled roots tick.clocks net.array_order p.writes.items (words_at old_pipes) (drop (length net.state) old) running.plan.writes arrays_long
+        running.whole.array_state.once
+        (λ k here. ap (λ (n : ℕ). begin_from net.arrays n net.array_order k) (sym words_long))
+        (λ i. ap (λ (n : ℕ). slice_index old (n + i)) words_long ∙ sym (get_or-drop (length net.state) old i 0))
 
     next_state : next net old (number_at ns) (root_at roots) tick ≡ numbers after.state.items
     next_state =
         sym
-        (ap numbers t.state ∙ written_numbers net ns tick.clocks p.writes.items registered ∙ ap (put_all net ns tick.clocks p.writes.items) registered_numbers
-        ∙ arrays_put has types law net running.whole old start ns t.settled roots tick.clocks net.array_order p.writes.items registers_next (drop count old) running.plan.writes arrays_long running.whole.array_state.once
-        (λ k here. ap (λ (n : ℕ). begin_from net.arrays n net.array_order k) (sym next_long))
-        (λ i. ap (λ (n : ℕ). slice_index old (n + i)) (sym count_is) ∙ sym (get_or-drop count old i 0)))
+        (ap numbers t.state ∙ piped_numbers ns tick.clocks p.after_writes.items all_written ∙ ap (all_taken ns tick.clocks p.after_writes.items) all_written_numbers
+        ∙ new_pipes_take has types law net running.whole old start ns t.settled roots tick.clocks p.after_writes.items running.plan.after_writes
+        ∙ ap (λ (ws : List ℕ). ws ++ arrays_next net (number_at ns) (root_at roots) tick.clocks old) (last_words net (number_at ns) (root_at roots) tick.clocks old (registers net)))
 
     pub allows : Allows net old tick (numbers after.outputs.items) (map (root_at roots) (clock_outputs net)) (numbers after.state.items)
     allows = (

@@ -15,7 +15,7 @@ use Rattle.fir_tick.specs.working.Passes.{vector_of}
 use Rattle.fir_tick.specs.working.Views.{numbers, widths}
 
 -- what stands there already changes nothing
-set_same : {A : Type 0} → (xs : List A) (i : ℕ) (x : A) → slice_get xs i ≡ Some x → set xs i x ≡ xs
+pub set_same : {A : Type 0} → (xs : List A) (i : ℕ) (x : A) → slice_get xs i ≡ Some x → set xs i x ≡ xs
 set_same [] i x e = refl
 set_same (y ∷ xs) zero x e = let same : y ≡ x = cc in ap (λ (z : _). z ∷ xs) (sym same)
 set_same (y ∷ xs) (suc i) x e = ap (λ (zs : List _). y ∷ zs) (set_same xs i x e)

@@ -1,4 +1,4 @@
--- The words of the state of a list of leaves: the numbers of the registers that have bits, in their order.
+-- The words of the state of a list of leaves: the numbers of the registers and pipes that have bits, in their order.
 use Rattle.std.proofs.Common.{◌≡◌, ℕ, zero, suc, ◌+◌, ◌≤◌, List, [], ◌∷◌, Bool, true, false, cond, Some, refl, ap, ◌∙◌, inl, inr, arith}
 use Rattle.std.specs.Prelude.{slice_get}
 use Rattle.fir_base.specs.Lists.{In, Distinct}

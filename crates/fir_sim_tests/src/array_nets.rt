@@ -1,6 +1,6 @@
 //! A small net with an array.
 
-ghost use Rattle.std.specs.Prelude.{◌≡◌, [], ◌∷◌, IfOk};
+ghost use Rattle.std.specs.Prelude.{◌≡◌, [], ◌∷◌, IfOk, false};
 ghost use Rattle.fir_net.specs.declared.reads.Read.{Read};
 ghost use Rattle.fir_net.specs.working.IsNet.{IsNet};
 ghost use Rattle.fir_net.specs.working.Settled.{shape};
@@ -50,12 +50,13 @@ fn reading() -> ArrayRead
     }
 }
 
-fn array(alloc: Global) -> Result<Array, MemoryOut>
-    ensures { IfOk result (λ a. a ≡ record { path = 109 ∷ []; width = 4; words = 3; writes = record { clock = 0; condition = Read.Leaf 2; address = Read.Leaf 4; given = Read.Leaf 6 } ∷ record { clock = 1; condition = Read.Leaf 3; address = Read.Leaf 5; given = Read.Leaf 7 } ∷ [] }) }
+pub fn array(alloc: Global) -> Result<Array, MemoryOut>
+    ensures { IfOk result (λ a. a ≡ record { path = 109 ∷ []; signed = false; width = 4; words = 3; writes = record { clock = 0; condition = Read.Leaf 2; address = Read.Leaf 4; given = Read.Leaf 6 } ∷ record { clock = 1; condition = Read.Leaf 3; address = Read.Leaf 5; given = Read.Leaf 7 } ∷ [] }) }
 {
     let writes = vec![in alloc; write(0, 2, 4, 6), write(1, 3, 5, 7)]?;
     Ok(Array {
         path: Name::new(alloc, b"m")?,
+        signed: false,
         width: 4,
         words: 3,
         writes: Seq::from_vec(writes),

@@ -117,7 +117,7 @@ fn reading() -> ArrayRead
 
 /// Two words, of which the one at the address a takes what the leaf d reads.
 fn array(alloc: Global) -> Result<Array, MemoryOut>
-    ensures { IfOk result (λ a. a ≡ record { path = 109 ∷ []; width = 4; words = 2; writes = record { clock = 0; condition = Read.Leaf 1; address = Read.Leaf 5; given = Read.Leaf 4 } ∷ [] }) }
+    ensures { IfOk result (λ a. a ≡ record { path = 109 ∷ []; signed = false; width = 4; words = 2; writes = record { clock = 0; condition = Read.Leaf 1; address = Read.Leaf 5; given = Read.Leaf 4 } ∷ [] }) }
 {
     let write = ArrayWrite {
         clock: LeafId::new(0),
@@ -127,6 +127,7 @@ fn array(alloc: Global) -> Result<Array, MemoryOut>
     };
     Ok(Array {
         path: Name::new(alloc, b"m")?,
+        signed: false,
         width: 4,
         words: 2,
         writes: Seq::from_vec(vec![in alloc; write]?),

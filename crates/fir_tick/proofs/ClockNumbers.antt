@@ -36,6 +36,7 @@ module _ (from m k : ℕ) (l : Leaf) (ls : List Leaf) (rest : (c i : ℕ) → sl
   by_role (role.Register d) s i h = plain (ap clock_count s) i (rw s at h)
   by_role (role.Wire d) s i h = plain (ap clock_count s) i (rw s at h)
   by_role (role.Reading d) s i h = plain (ap clock_count s) i (rw s at h)
+  by_role (role.Pipe d) s i h = plain (ap clock_count s) i (rw s at h)
   by_role (role.ClockOutput d) s i h = plain (ap clock_count s) i (rw s at h)
   by_role (role.ClockWire d) s i h = plain (ap clock_count s) i (rw s at h)
 

@@ -44,6 +44,7 @@ role_same e f n (role.Output r) h = refl
 role_same e f n (role.Wire r) h = refl
 role_same e f n (role.Register d) h = refl
 role_same e f n (role.Reading d) h = refl
+role_same e f n (role.Pipe d) h = refl
 role_same e f n (role.ClockOutput c) h = driven_same e f c h
 role_same e f n (role.ClockWire c) h = driven_same e f c h
 
@@ -112,5 +113,6 @@ module _ (net : FlatNet) (order : List Read) (is : IsOrder net order) where
       by (role.Wire d) k l c is_r at e = cc
       by (role.Register d) k l c is_r at e = cc
       by (role.Reading d) k l c is_r at e = cc
+      by (role.Pipe d) k l c is_r at e = cc
       by (role.ClockOutput b) k l c is_r at e = let same : b ≡ c = cc in met k l at ∙ ap (role_root (root_at roots) (slice_index (clocks_before 0 net.leaves) k)) is_r ∙ ap (driven_clock (root_at roots)) same
       by (role.ClockWire b) k l c is_r at e = let same : b ≡ c = cc in met k l at ∙ ap (role_root (root_at roots) (slice_index (clocks_before 0 net.leaves) k)) is_r ∙ ap (driven_clock (root_at roots)) same

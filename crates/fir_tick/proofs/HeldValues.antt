@@ -44,6 +44,7 @@ role_same net state e f w now (role.Output r) h = ap (λ (v : Num). at_width v w
 role_same net state e f w now (role.Wire r) h = ap (λ (v : Num). at_width v w) (h.each 0 r refl)
 role_same net state e f w now (role.Register d) h = register_same e f w d.reset now h
 role_same net state e f w now (role.Reading r) h = word_same net state e f r h
+role_same net state e f w now (role.Pipe p) h = refl
 role_same net state e f w now (role.ClockOutput c) h = refl
 role_same net state e f w now (role.ClockWire c) h = refl
 

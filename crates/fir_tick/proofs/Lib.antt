@@ -18,3 +18,4 @@ pub mod Fits
 pub mod Lists
 pub mod Passing
 pub mod PlanLists
+pub mod PipeLists

@@ -12,7 +12,7 @@ use Rattle.fir_tick.specs.working.StateWords.{state_word}
 same_word : (n m : List ℕ) (v w : ℕ) → n ≡ m → v ≡ w → ◌≡◌ {A = StateWord} (record { name = n; width = v; depth = None }) (record { name = m; width = w; depth = None })
 same_word n m v w e f = rw (e, f) refl
 
--- the word of a register that has a name
+-- the word of a register or a pipe that has a name
 word_is : (net : FlatNet) (names : List (Option (List ℕ))) (k : ℕ) (l : Leaf) (name : List ℕ) → slice_get net.leaves k ≡ Some l → name_at names k ≡ Some name
     → state_word net names k ≡ record { name = name; width = l.width; depth = None }
 word_is net names k l name at named = same_word _ _ _ _ (ap (λ (o : Option (List ℕ)). unwrap_or o []) named) (width_at net.leaves k l at)

@@ -30,7 +30,7 @@ use Rattle.fir_tick.specs.declared.spans.ArraySpan.{ArraySpan}
 use Rattle.fir_tick.specs.declared.steps.Step.{Step}
 use Rattle.fir_tick.specs.declared.steps.StepWork.{StepWork}
 use Rattle.fir_tick.specs.declared.steps.StepWork.TheVariants as work
-use Rattle.fir_tick.specs.working.ArrayReads.{IsWordRead}
+use Rattle.fir_tick.specs.working.ArrayReads.{word_found, IsWordRead}
 use Rattle.fir_tick.specs.working.ArraySpans.{span_at}
 use Rattle.fir_tick.specs.working.Settling.{held_under, held_register, held_word, held_role, held_leaf_at}
 use Rattle.fir_tick.specs.working.Steps.{given, AreSteps, CanGive, IsFitWork, IsKindWork, IsLeafWork, IsRegisterWork, IsStepOf, IsTaskWork, IsWorkOf, Stays}
@@ -62,10 +62,13 @@ word_is state true address n None = rw (none_below address) (by (nat_lt address 
     by false = refl
 word_is state enabled address n (Some begin) = refl
 
+pub word_held : (net : FlatNet) (a : ArrayRead) (r : WordRead) → IsWordRead net a r → (state ns : List ℕ) → word_found r state ns ≡ held_word net state (value_in net ns) a
+word_held net a r is state ns = rw (is.address, is.enable, is.span) (word_is state (nat_eq (number_at ns (place net a.enable)) 1) (number_at ns (place net a.address)) (words_of net.arrays a.array) (begin_of net a.array))
+
 word_works : (net : FlatNet) (a : ArrayRead) (r : WordRead) → IsWordRead net a r → Works net (work.Word r) (a.address ∷ a.enable ∷ []) (λ state ns. held_word net state (value_in net ns) a)
 word_works net a r is = record {
   runs = λ state ns fits fit. subst (λ (s : ArraySpan). s.begin + s.words ≤ length state) (sym is.span) (span_within net a.array state fits);
-  gives = λ state ns fit. rw (is.address, is.enable, is.span) (word_is state (nat_eq (number_at ns (place net a.enable)) 1) (number_at ns (place net a.address)) (words_of net.arrays a.array) (begin_of net a.array));
+  gives = λ state ns fit. word_held net a r is state ns;
 }
 
 module _ (net : FlatNet) (k w : ℕ) where
@@ -100,6 +103,7 @@ module _ (net : FlatNet) (k w : ℕ) where
   role_works (role.Wire d) s is = task_works (IsFitWork net d w) (d ∷ []) (λ ns. at_width (value_in net ns d) w) (fit_works d) s is
   role_works (role.Register d) s is = task_works (IsRegisterWork net k w d.reset) (reset_reads d.reset) (λ ns. held_register (value_in net ns) w d.reset (number_at ns k)) (register_works d.reset) s is
   role_works (role.Reading a) s is = reading_works a s is
+  role_works (role.Pipe p) s is = absurd (cc)
   role_works (role.ClockOutput c) s is = absurd (cc)
   role_works (role.ClockWire c) s is = absurd (cc)
 
@@ -119,6 +123,7 @@ module _ (net : FlatNet) (k w : ℕ) where
   role_stays (role.Wire d) is state value now = absurd is
   role_stays (role.Register d) is state value now = register_stays d.reset is value now
   role_stays (role.Reading a) is state value now = absurd is
+  role_stays (role.Pipe p) is state value now = refl
   role_stays (role.ClockOutput c) is state value now = refl
   role_stays (role.ClockWire c) is state value now = refl
 

@@ -22,7 +22,7 @@ use Rattle.fir_net.specs.working.Rows.{leaf_word}
 use Rattle.fir_net.specs.working.Settled.{shape as net_shape}
 use Rattle.fir_net.specs.working.Values.{leaf_width}
 use Rattle.fir_net.specs.working.IsNet.{IsLeaf, IsNet}
-use Rattle.fir_net.proofs.StateWords.{RegisterAt, register_at}
+use Rattle.fir_net.proofs.StateWords.{StateAt, state_at}
 use Rattle.fir_net.proofs.WholeValues.{width_at}
 use Rattle.fir_net_names.specs.declared.name_table.NameTable.{NameTable}
 use Rattle.fir_net_names.specs.working.IsTable.{IsTable}
@@ -74,10 +74,10 @@ module _ (net : FlatNet) (names : List (Option (List ℕ))) where
   widths_are [] = refl
   widths_are (k ∷ ks) = ap (λ (ws : List ℕ). leaf_width net.leaves k ∷ ws) (widths_are ks)
 
-  leaf_word_is : (k : ℕ) (r : RegisterAt net.leaves k) → leaf_word (slice_get net.leaves k) ≡ record { name = base_name r.leaf.path; width = r.leaf.width } ∷ []
+  leaf_word_is : (k : ℕ) (r : StateAt net.leaves k) → leaf_word (slice_get net.leaves k) ≡ record { name = base_name r.leaf.path; width = r.leaf.width } ∷ []
   leaf_word_is k r = ap leaf_word r.at ∙ rw r.bits refl
 
-  kinds_are : (ks : List ℕ) → ((k : ℕ) → In ks k → RegisterAt net.leaves k) → word_kinds (words ks) ≡ map of_register (flat_map (λ k. leaf_word (slice_get net.leaves k)) ks)
+  kinds_are : (ks : List ℕ) → ((k : ℕ) → In ks k → StateAt net.leaves k) → word_kinds (words ks) ≡ map of_register (flat_map (λ k. leaf_word (slice_get net.leaves k)) ks)
   kinds_are [] are = refl
   kinds_are (k ∷ ks) are =
       let r = are k (inl refl) in
@@ -104,8 +104,8 @@ module _ (net : FlatNet) (table : NameTable) where
   arrays = map (array_word net table.arrays) net.array_order
 
   module _ (whole : IsNet net) (is : IsTable net table) where
-    word_register : (k : ℕ) → In net.state k → RegisterAt net.leaves k
-    word_register k m = let place = number_of net.state k m in register_at whole.state place.0 k place.1
+    word_register : (k : ℕ) → In net.state k → StateAt net.leaves k
+    word_register k m = let place = number_of net.state k m in state_at whole.state place.0 k place.1
 
     word_is_word : AllByRecursion IsName (somes table.leaves) → (k : ℕ) → In net.state k → IsStateWord (state_word net table.leaves k)
     word_is_word spelled k m =

@@ -26,7 +26,7 @@ module _ (net : FlatNet) (whole : IsNet net) (leaves : List Leaf) (all_leaves : 
     pub word_within : number < length leaves
     word_within = slice_get_within leaves number found.0 found.1
 
-    -- and it is a register that has bits
+    -- and it is a register or a pipe that has bits
     module _ (leaf : Leaf) (read : leaf ≡ get_or leaves number leaf) where
       there : slice_get leaves number ≡ Some leaf
       there = slice_get-get_or leaves number leaf word_within ∙ ap Some (sym read)

@@ -48,17 +48,17 @@ module _ (has : HasItsType) (types : NodesHaveTheirTypes) (net : FlatNet) (whole
   register_below w signed None now can h = h
   register_below w signed (Some d) now can h = under_below w d.kind d.condition d.init now can.init.can h
 
-  word_below : (w : ℕ) (r : ArrayRead) → IsReadOf net.arrays w r → held_word net state value r < 2 ^ w
-  word_below w r of = go (held_is_read net value r) refl
+  word_below : (l : Leaf) (r : ArrayRead) → IsReadOf net.arrays l r → held_word net state value r < 2 ^ l.width
+  word_below l r of = go (held_is_read net value r) refl
     where
       number : ℕ
       number = (value r.address).value.number
 
-      wide : word_width net.arrays r.array ≡ w
+      wide : word_width net.arrays r.array ≡ l.width
       wide = ap (λ (o : Option Array). unwrap_or (option_map (λ (a : Array). a.width) o) 0) of.1 ∙ of.2
 
-      go : (b : Bool) → held_is_read net value r ≡ b → (if b then word_in state (begin_of net r.array) number else 0) < 2 ^ w
-      go false e = pow_pos w
+      go : (b : Bool) → held_is_read net value r ≡ b → (if b then word_in state (begin_of net r.array) number else 0) < 2 ^ l.width
+      go false e = pow_pos l.width
       go true e =
           let within : number < words_of net.arrays r.array = grind arith in
           subst (λ (n : ℕ). word_in state (begin_of net r.array) number < 2 ^ n) wide (word_fits net state fits r.array number within)
@@ -69,7 +69,8 @@ module _ (has : HasItsType) (types : NodesHaveTheirTypes) (net : FlatNet) (whole
   role_below k l (role.Output r) now at eq is h = read_below has types net whole ns held l.width r is.can
   role_below k l (role.Wire r) now at eq is h = read_below has types net whole ns held l.width r is.can
   role_below k l (role.Register d) now at eq is h = register_below l.width l.signed d.reset now is.1 h
-  role_below k l (role.Reading r) now at eq is h = word_below l.width r (whole.readings k l r at eq)
+  role_below k l (role.Reading r) now at eq is h = word_below l r (whole.readings k l r at eq)
+  role_below k l (role.Pipe p) now at eq is h = h
   role_below k l (role.ClockOutput c) now at eq is h = h
   role_below k l (role.ClockWire c) now at eq is h = h
 

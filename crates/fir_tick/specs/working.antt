@@ -3,6 +3,8 @@ pub mod ArrayReads
 pub mod ArraySpans
 pub mod ArrayWrites
 pub mod Passes
+pub mod PipePlans
+pub mod PipeReads
 pub mod Plans
 pub mod Roots
 pub mod Settling

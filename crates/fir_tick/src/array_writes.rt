@@ -24,6 +24,7 @@ pub fn write_arrays(
     requires rising { (i j : ℕ) → i ≤ j → j < length named.now → slice_index named.now i ≤ slice_index named.now j }
     requires whole { AllByRecursion IsBitVector state.old }
     ensures values { state.new ≡ written net.now numbers.now named.now plans.now state.old }
+    ensures room { length state.new ≡ length state.old }
     ensures whole { AllByRecursion IsBitVector state.new }
 {
     for plan in plans {

@@ -22,7 +22,7 @@ pub fn put_inputs(plans: &[InputPlan], values: &[u128], numbers: &mut [u128])
     }
 }
 
-/// Puts the words of the registers, which stand in front of the state, into their places.
+/// Puts the words of registers and pipes, which stand in front of the state, into their places.
 pub fn put_state(plans: &[RegisterPlan], state: &[Bits], numbers: &mut [u128])
     requires within { AllByRecursion (IsPlaced (length numbers.old)) plans.now }
     requires long { length plans.now ≤ length state.now }
@@ -62,8 +62,8 @@ fn shown(plan: &OutputPlan, numbers: &[u128]) -> Bits
     Bits::of(plan.width, numbers[plan.leaf])
 }
 
-/// Gives each register its word after the edges of the named clocks, from the numbers before them. The words
-/// behind those of registers stay.
+/// Gives each register its word after the edges of the named clocks, from the numbers before them. Pipes hold
+/// theirs, and the words behind these stay.
 pub fn take_edges(
     net: &FlatNet,
     plans: &[RegisterPlan],
@@ -76,6 +76,7 @@ pub fn take_edges(
     requires room { length plans.now ≤ length state.old }
     requires whole { AllByRecursion IsBitVector state.old }
     ensures values { state.new ≡ map (register_value net.now numbers.now named.now) plans.now ++ drop (length plans.now) state.old }
+    ensures room { length state.new ≡ length state.old }
     ensures whole { AllByRecursion IsBitVector state.new }
 {
     for (j, plan) in plans.iter().enumerate() {

@@ -9,6 +9,7 @@ ghost use Rattle.fir_net.specs.working.Settled.{registers};
 ghost use Rattle.fir_tick.specs.working.ArraySpans.{AreSpans};
 ghost use Rattle.fir_tick.specs.working.Plans.{input_plan, output_plan, plans_by, IsNextPlan, IsPlan, IsRegisterPlan, IsResetPlan};
 
+use crate::pipe_plans::{PipePlan, pipe_plans};
 use crate::roots::{clock_roots, root_at};
 use crate::spans::ArraySpan;
 use crate::write_plans::{WritePlan, write_plans};
@@ -41,7 +42,8 @@ pub struct ResetPlan {
 }
 
 /// A register: the number of its leaf, its width in bits, the number of its clock among the clock inputs, if it
-/// has one, its reset, and what gives that which drives it, at its width.
+/// has one, its reset, and what gives that which drives it, at its width. A pipe stands among them as a register
+/// that holds its word.
 #[derive(Clone, Copy)]
 pub struct RegisterPlan {
     pub leaf: usize,
@@ -51,14 +53,17 @@ pub struct RegisterPlan {
     pub next: Option<Task>,
 }
 
-/// The inputs and outputs of a net, each in the order of the leaves, the registers in the order of the state,
-/// and the writes of arrays in the order in which they are done.
+/// The inputs and outputs of a net, each in the order of the leaves, the registers and pipes in the order of the
+/// state, the pipes that read arrays before they are written, the writes of arrays in the order in which they
+/// are done, and the pipes that read arrays after it.
 #[derive(Drop)]
 pub struct Plan {
     pub inputs: Vec<InputPlan>,
     pub outputs: Vec<OutputPlan>,
     pub registers: Vec<RegisterPlan>,
+    pub before_writes: Vec<PipePlan>,
     pub writes: Vec<WritePlan>,
+    pub after_writes: Vec<PipePlan>,
 }
 
 impl Plan {
@@ -80,7 +85,9 @@ impl Plan {
             inputs: input_plans(alloc, leaves)?,
             outputs: output_plans(alloc, leaves)?,
             registers: register_plans(alloc, net, roots.as_slice())?,
+            before_writes: pipe_plans(alloc, net, spans, roots.as_slice(), false)?,
             writes: write_plans(alloc, net, spans, roots.as_slice())?,
+            after_writes: pipe_plans(alloc, net, spans, roots.as_slice(), true)?,
         })
     }
 }
@@ -154,15 +161,22 @@ fn register_plan(net: &FlatNet, roots: &[Option<usize>], leaf: &Leaf, number: us
     requires word { is_word leaf.now ≡ true }
     ensures { IsRegisterPlan net.now roots.now result number }
 {
-    let Role::Register(register) = leaf.role else {
-        unreachable!()
-    };
-    RegisterPlan {
-        leaf: number,
-        width: leaf.width,
-        clock: root_at(roots, register.clock),
-        reset: reset_plan(net, leaf, register.reset),
-        next: next_plan(net, leaf, register.next),
+    match leaf.role {
+        Role::Register(register) => RegisterPlan {
+            leaf: number,
+            width: leaf.width,
+            clock: root_at(roots, register.clock),
+            reset: reset_plan(net, leaf, register.reset),
+            next: next_plan(net, leaf, register.next),
+        },
+        Role::Pipe(_) => RegisterPlan {
+            leaf: number,
+            width: leaf.width,
+            clock: None,
+            reset: None,
+            next: None,
+        },
+        _ => unreachable!(),
     }
 }
 

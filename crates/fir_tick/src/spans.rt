@@ -29,7 +29,7 @@ pub fn array_spans(alloc: Global, net: &FlatNet) -> Result<Vec<ArraySpan>, Memor
     Ok(spans)
 }
 
-/// Finds the arrays of the state, one behind the other behind the words of registers.
+/// Finds the arrays of the state, one behind the other behind the words of registers and pipes.
 fn find_spans(net: &FlatNet, spans: &mut [ArraySpan])
     requires whole { IsNet net.now }
     requires empty { spans.old ≡ replicate (length net.now.arrays) no_span }

@@ -40,7 +40,8 @@ fn words_at(alloc: Global, widths: &[u32], words: &[u128]) -> Result<Vec<Bits>, 
     Ok(state)
 }
 
-/// The widths of the words of the state: of the registers, and then of each array as often as it has words.
+/// The widths of the words of the state: of registers and pipes, and then of each array as often as it has
+/// words.
 fn state_widths(alloc: Global, net: &FlatNet) -> Result<Vec<u32>, MemoryOut>
     requires { IsNet net.now }
     ensures widths { IfOk result (λ v. v.items ≡ (shape net.now).state) }
@@ -56,7 +57,7 @@ fn state_widths(alloc: Global, net: &FlatNet) -> Result<Vec<u32>, MemoryOut>
     Ok(widths)
 }
 
-/// The widths of the registers of the state.
+/// The widths of the registers and pipes of the state.
 fn register_widths(alloc: Global, net: &FlatNet) -> Result<Vec<u32>, MemoryOut>
     requires { IsNet net.now }
     ensures widths { IfOk result (λ v. v.items ≡ map (leaf_width net.now.leaves) net.now.state) }

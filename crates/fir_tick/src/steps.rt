@@ -103,7 +103,8 @@ fn leaf_work(net: &FlatNet, spans: &[ArraySpan], number: LeafId, leaf: &Leaf) ->
             None => None,
         },
         Role::Reading(read) => Some(StepWork::Word(word_read(net, spans, read))),
-        Role::Input | Role::Clock | Role::ClockOutput(_) | Role::ClockWire(_) => None,
+        Role::Input | Role::Clock | Role::Pipe(_) | Role::ClockOutput(_) | Role::ClockWire(_) =>
+            None,
     }
 }
 

@@ -81,7 +81,7 @@ fn state_words(alloc: Global, table: &NameTable, net: &FlatNet) -> Result<Vec<St
     Ok(words)
 }
 
-/// The words of the registers of the state.
+/// The words of the registers and pipes of the state.
 fn register_words(
     alloc: Global,
     table: &NameTable,
@@ -106,7 +106,7 @@ fn register_words(
     Ok(words)
 }
 
-/// Appends the word of a register of that name.
+/// Appends the word of a register or a pipe of that name.
 fn put_state_word(
     alloc: Global,
     words: &mut Vec<StateWord>,

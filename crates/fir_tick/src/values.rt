@@ -11,16 +11,17 @@ ghost use Rattle.fir_tick.specs.working.Settling.{IsSettled};
 ghost use Rattle.fir_tick.specs.working.Steps.{IsStepped};
 ghost use Rattle.fir_tick.specs.working.ArrayWrites.{after_edges, CanWrite};
 ghost use Rattle.fir_tick.specs.working.Passes.{with_inputs, with_state, CanTake, IsPlaced, IsShown, IsWithin, output_value};
+ghost use Rattle.fir_tick.specs.working.PipeReads.{CanPipe};
 ghost use Rattle.fir_tick.specs.working.Views.{numbers as words_of};
 
 use crate::plan::Plan;
 use crate::steps::Step;
-use crate::{array_writes, passes, settle};
+use crate::{array_writes, passes, pipe_reads, settle};
 use fir_bits::Bits;
 use fir_net::FlatNet;
 
 /// The numbers of all leaves and then of all nodes, where a clock's leaf has none to speak of; and the values
-/// of the outputs and the words of the state, in their order: those of registers, and then those of arrays.
+/// of the outputs and the words of the state, in their order: those of registers and pipes, and then those of arrays.
 #[derive(Drop)]
 pub struct Values {
     pub numbers: Vec<u128>,
@@ -29,7 +30,7 @@ pub struct Values {
 }
 
 impl Values {
-    /// Puts the words of the registers into their places.
+    /// Puts the words of registers and pipes into their places.
     pub fn put_state(&mut self, plan: &Plan)
         requires within { AllByRecursion (IsPlaced (length self.old.numbers.items)) plan.now.registers.items }
         requires long { length plan.now.registers.items ≤ length self.old.state.items }
@@ -75,10 +76,12 @@ impl Values {
         passes::show_outputs(plan.outputs.as_slice(), numbers, &mut self.outputs);
     }
 
-    /// Gives each register its word after the edges of the named clocks, and each word of an array what is
-    /// written there. All numbers stay what they are before them.
+    /// Gives each register and each pipe its word after the edges of the named clocks, and each word of an array
+    /// what is written there. All numbers stay what they are before them.
     pub fn take_edges(&mut self, net: &FlatNet, plan: &Plan, named: &[usize])
         requires can { AllByRecursion (CanTake net.now self.old.numbers.items) plan.now.registers.items }
+        requires before_writes { AllByRecursion (CanPipe (length self.old.state.items)) plan.now.before_writes.items }
+        requires after_writes { AllByRecursion (CanPipe (length self.old.state.items)) plan.now.after_writes.items }
         requires writes { AllByRecursion (CanWrite net.now self.old.numbers.items (length self.old.state.items)) plan.now.writes.items }
         requires rising { (i j : ℕ) → i ≤ j → j < length named.now → slice_index named.now i ≤ slice_index named.now j }
         requires room { length plan.now.registers.items ≤ length self.old.state.items }
@@ -90,7 +93,11 @@ impl Values {
         let numbers = self.numbers.as_slice();
         let registers = plan.registers.as_slice();
         passes::take_edges(net, registers, named, numbers, &mut self.state);
+        let before_writes = plan.before_writes.as_slice();
+        pipe_reads::take_words(before_writes, named, numbers, &mut self.state);
         let writes = plan.writes.as_slice();
         array_writes::write_arrays(net, writes, named, numbers, &mut self.state);
+        let after_writes = plan.after_writes.as_slice();
+        pipe_reads::take_words(after_writes, named, numbers, &mut self.state);
     }
 }

@@ -1,6 +1,6 @@
 //! What a tick does with the writes of arrays, worked out once.
 
-ghost use Rattle.std.specs.Prelude.{◌≡◌, ◌++◌, ◌<◌, ◌≤◌, List, IfOk, OnOk, length, map};
+ghost use Rattle.std.specs.Prelude.{◌≡◌, ◌++◌, ◌<◌, ◌≤◌, Bool, List, IfOk, OnOk, length, map};
 ghost use Rattle.std.specs.List.{AllZip};
 ghost use Rattle.fir_net.specs.working.IsNet.{IsArrayWrite, IsNet};
 ghost use Rattle.fir_tick.specs.declared.write_plans.WritePlan.{WritePlan as Planned};
@@ -77,7 +77,7 @@ fn write_plan(
     write: &ArrayWrite,
 ) -> WritePlan
     requires whole { IsNet net.now }
-    requires can { IsArrayWrite net.now.leaves net.now.nodes write.now }
+    requires can { (signed : Bool) × IsArrayWrite net.now.leaves net.now.nodes signed width write.now }
     requires narrow { width ≤ 128 }
     ensures { IsWriteFor net.now roots.now span width write.now result }
 {

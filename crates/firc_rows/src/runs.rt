@@ -48,6 +48,11 @@ const WIRE: &[u8] =
 const ACCUMULATOR: &[u8] =
     b"circuit T :\n  module T :\n    input clock : Clock\n    input a : UInt<4>\n    output o : UInt<4>\n    reg r : UInt<4>, clock\n    r <= xor(r, a)\n    o <= r\n";
 
+/// A memory of three words, with a reader that reads late and two writers, of which the second
+/// wins where both write one word.
+const MEMORY: &[u8] =
+    b"circuit T :\n  module T :\n    input clock : Clock\n    input a : UInt<2>\n    input b : UInt<2>\n    input u : UInt<4>\n    input v : UInt<4>\n    input w : UInt<1>\n    output o : UInt<4>\n    mem m :\n      data-type => UInt<4>\n      depth => 3\n      read-latency => 1\n      write-latency => 1\n      reader => r\n      writer => p\n      writer => q\n      read-under-write => new\n    m.r.addr <= a\n    m.r.en <= UInt<1>(1)\n    m.r.clk <= clock\n    m.p.addr <= a\n    m.p.en <= w\n    m.p.clk <= clock\n    m.p.data <= u\n    m.p.mask <= UInt<1>(1)\n    m.q.addr <= b\n    m.q.en <= w\n    m.q.clk <= clock\n    m.q.data <= v\n    m.q.mask <= UInt<1>(1)\n    o <= m.r.data\n";
+
 /// Two ticks, each of which prints three bytes.
 const TICKS: &[u8] = b"- 1\n- 2\n";
 
@@ -104,12 +109,21 @@ const EMITS: &[Run] = &[
     ),
     (
         EMIT,
-        b"circuit T :\n  module Inner :\n    mem m :\n      data-type => UInt<4>\n      depth => 8\n      read-latency => 1\n      write-latency => 1\n  module T :\n    output o : UInt<1>\n    o <= UInt<1>(0)\n",
+        b"circuit T :\n  module T :\n    input a : UInt<2>\n    input e : UInt<1>\n    output o : UInt<4>\n    mem m :\n      data-type => UInt<4>\n      depth => 4\n      read-latency => 0\n      write-latency => 1\n      reader => r\n    m.r.addr <= a\n    m.r.en <= e\n    m.r.clk is invalid\n    o <= m.r.data\n",
+        b"",
+        Failing::Nothing,
+        0,
+        b"module T(\n  input [1:0] a,\n  input e,\n  output [3:0] o\n);\n  reg [3:0] m [0:3];\n  wire [3:0] _n0;\n  wire [3:0] _n1;\n  assign _n0 = m[a];\n  assign _n1 = e ? _n0 : 4'h0;\n  assign o = _n1;\nendmodule\n",
+        b"",
+    ),
+    (
+        EMIT,
+        b"circuit T :\n  module T :\n    input c : Clock\n    input d : Clock\n    mem m :\n      data-type => UInt<4>\n      depth => 2\n      read-latency => 0\n      write-latency => 1\n      reader => r s\n    m is invalid\n    m.r.clk <= c\n    m.s.clk <= d\n",
         b"",
         Failing::Nothing,
         1,
         b"",
-        b"E05 3:5 unsupported mem\n",
+        b"E26 5:9 memory clocks m c d\n",
     ),
     (
         EMIT,
@@ -241,6 +255,24 @@ const EMITS: &[Run] = &[
 ];
 
 const SIMULATIONS: &[Run] = &[
+    (
+        SIM_STATE,
+        MEMORY,
+        b"init m_r_data c\ninit m 2 7\n0 1 1 5 9 1\n0 3 0 7 2 1\n0 1 2 4 6 0\n- 0 0 0 0 0\n",
+        Failing::Nothing,
+        0,
+        b"c | 9 0 9 7\n9 | 0 2 9 7\n0 | 9 2 9 7\n9 | 9 2 9 7\n",
+        b"",
+    ),
+    (
+        SIM_STATE,
+        MEMORY,
+        b"init m 3 7\n",
+        Failing::Nothing,
+        6,
+        b"",
+        b"X04 1 name 3\n",
+    ),
     (
         SIM_STATE,
         b"circuit T :\n  module T :\n    input clock : Clock\n    input reset : UInt<1>\n    input io : {a : UInt<4>, en : UInt<1>}\n    output o : UInt\n    reg r : UInt, clock with : (reset => (reset, UInt<4>(9)))\n    when io.en :\n      r <= xor(r, io.a)\n    o <= r\n",

@@ -1,7 +1,7 @@
 -- The tree of a net has one choice of values at every state and tick, and allows what the net allows.
 -- Its values at rest are settled, and so are those of the net's leaves that they hold. As the net has one choice too, that choice shows the same outputs, and the
 -- same state follows from it.
-use Rattle.std.proofs.Common.{◌≡◌, ℕ, ◌≤◌, List, map, refl, true, false, length, sym, ap, ◌∙◌, subst, arith, Option, Some}
+use Rattle.std.proofs.Common.{◌≡◌, ℕ, ◌≤◌, List, refl, true, false, length, sym, ap, ap₂, ◌∙◌, ◌++◌, subst, arith, Option, Some}
 use Rattle.std.specs.Prelude.{◌↔◌, slice_get}
 use Rattle.std.proofs.lemmas.Option.{same_Some, slice_get_within}
 use Rattle.fir_base.specs.Lists.{In}
@@ -14,15 +14,14 @@ use Rattle.fir_net.specs.declared.net.FlatNet.{FlatNet}
 use Rattle.fir_net_names.specs.declared.name_table.NameTable.{NameTable}
 use Rattle.fir_net.specs.working.IsNet.{CanRead}
 use Rattle.fir_net.specs.working.Values.{at_width}
-use Rattle.fir_net.specs.working.Settled.{value_at, is_clock, Settled, registers, shape as net_shape}
-use Rattle.fir_net.specs.working.Next.{next_word}
+use Rattle.fir_net.specs.working.Settled.{value_at, is_clock, Settled, shape as net_shape}
+use Rattle.fir_net.specs.working.Next.{next}
 use Rattle.fir_net.specs.working.One.{HasOne}
 use Rattle.fir_net.specs.working.Allows.{Allows as NetAllows}
 use Rattle.fir_net.proofs.AlongOrder.{SameBefore}
 use Rattle.fir_net.proofs.ValuesAlong.{IsPlain, values_agree}
 use Rattle.ver_ast.specs.Valid.{Valid}
-use Rattle.ver_ast.specs.Nets.{SizedNet, regs, shape as v_shape}
-use Rattle.ver_ast.specs.Stores.{stored}
+use Rattle.ver_ast.specs.Nets.{shape as v_shape}
 use Rattle.ver_ast.specs.AtomValues.{atom_value}
 use Rattle.ver_ast.specs.Settled.{Rest}
 use Rattle.ver_ast.specs.Allows.{VAllows, VOne}
@@ -30,18 +29,20 @@ use Rattle.ver_build.specs.declared.places.Places.{Places}
 use Rattle.ver_build.specs.working.Operands.{atom_at}
 use Rattle.ver_build.specs.working.Places.{held_of}
 use Rattle.ver_build.specs.working.Blocks.{reset_net}
-use Rattle.ver_build.proofs.NoArrays.{next_words}
+use Rattle.ver_build.proofs.ArrayWords.{regs_once}
+use Rattle.ver_build.proofs.WordsWritten.{next_from}
+use Rattle.ver_build.proofs.NextArrays.{arrays_same, arrays_within}
+use Rattle.ver_ast.specs.Next.{v_next}
 use Rattle.ver_build.proofs.Premises.{Premises}
 use Rattle.ver_build.proofs.Parts.{in_parts}
 use Rattle.ver_build.proofs.Nets.{sizes}
 use Rattle.ver_build.proofs.Words.{IsWord}
-use Rattle.ver_build.proofs.Resting.{words_after, next_is}
 use Rattle.ver_build.proofs.ReadsStand.{read_of, word_reset}
 use Rattle.ver_build.proofs.LeafValues.{AgreesLeaves, outputs_same}
 use Rattle.ver_build.proofs.NextStates.{Agrees, states_same}
 use Rattle.ver_build.proofs.ClocksShown.{outputs_shown}
 use Rattle.ver_build.proofs.NodeValues.{leaf_values}
-use Rattle.ver_build.proofs.NetSettled.{leaf_clocks, agrees, source_value, reset_value, next_state, net_settled, tree_settled}
+use Rattle.ver_build.proofs.NetSettled.{leaf_clocks, agrees, source_value, agree, reset_value, net_settled, tree_settled}
 
 module _ (net : FlatNet) (t : NameTable) (p : Places) (order : List Read) (is : Premises net t p order) (valid : Valid (in_parts net t p order))
     (shapes : v_shape (in_parts net t p order) ≡ net_shape net) where
@@ -56,6 +57,17 @@ module _ (net : FlatNet) (t : NameTable) (p : Places) (order : List Read) (is : 
       }
 
   module _ (state : List ℕ) (tick : Tick) where
+    -- the state after the tick, from a choice of the net that agrees with values at rest in the tree
+    next_given : (f : Env) → (rest : Rest (in_parts net t p order) state tick f) → (e : ℕ → ℕ) (clock : ℕ → Option ℕ) → Agrees net t p order e clock f
+        → ((r : Read) → CanRead net.leaves net.nodes r → value_at net e r ≡ value_at net (leaf_values p f) r)
+        → v_next (in_parts net t p order) state tick f ≡ Some (next net state e clock tick)
+    next_given f rest e clock agree values =
+        next_from net t p order is state (regs_once net t p order is) rest.begins.shaped.state_fits tick f
+        (arrays_within net t p order is state tick f rest e clock values agree.clocks)
+        ∙ ap Some
+        (ap₂ (λ (xs ys : List ℕ). xs ++ ys) (states_same net t p order is state tick f rest e clock agree)
+        (arrays_same net t p order is state tick f rest e clock values agree.clocks))
+
     to_net : (shown : List ℕ) (clocks : List (Option ℕ)) (after : List ℕ) → VAllows (in_parts net t p order) state tick shown clocks after
         → NetAllows net state tick shown clocks after
     to_net shown clocks after a =
@@ -66,8 +78,7 @@ module _ (net : FlatNet) (t : NameTable) (p : Places) (order : List Read) (is : 
           net_settled net t p order is state tick f rest shapes,
           sym (outputs_same net t p order is (leaf_values p f) (leaf_clocks t p f) f (agrees net t p order is state tick f rest)) ∙ a.2,
           sym (outputs_shown net t p order is state tick f rest (leaf_clocks t p f) (λ k l at ticking. refl)) ∙ a.3,
-          next_words net is.whole is.writable.no_arrays state (leaf_values p f) (leaf_clocks t p f) tick
-              ∙ sym (next_state net t p order is state tick f rest) ∙ same_Some _ _ (sym (next_is net t p order is state tick f rest) ∙ a.4),
+          same_Some _ _ (sym (next_given f rest (leaf_values p f) (leaf_clocks t p f) (agree net t p order is state tick f rest) (λ r can. refl)) ∙ a.4),
         )
 
     -- a choice of the net, beside the tree's
@@ -115,9 +126,8 @@ module _ (net : FlatNet) (t : NameTable) (p : Places) (order : List Read) (is : 
       agree_too : Agrees net t p order e clock f
       agree_too = record { leaves = agrees_too; clocks = same_clock; sources = source_too; resets = reset_too }
 
-      next_too : map (λ (r : SizedNet). stored (words_after net t p order is state tick f rest) r.0) (regs (in_parts net t p order)) ≡ map
-          (next_word net e clock tick.clocks) (registers net)
-      next_too = states_same net t p order is state tick f rest e clock agree_too
+      next_too : v_next (in_parts net t p order) state tick f ≡ Some (next net state e clock tick)
+      next_too = next_given f rest e clock agree_too (λ r can. sym (same_read r can))
 
     to_tree : (shown : List ℕ) (clocks : List (Option ℕ)) (after : List ℕ) → NetAllows net state tick shown clocks after
         → VAllows (in_parts net t p order) state tick shown clocks after
@@ -129,8 +139,7 @@ module _ (net : FlatNet) (t : NameTable) (p : Places) (order : List Read) (is : 
           tree_settled net t p order is state tick f at_rest.rest,
           outputs_same net t p order is a.0 a.1 f (agrees_too a.0 a.1 a.2 f at_rest.rest) ∙ a.3,
           outputs_shown net t p order is state tick f at_rest.rest a.1 (same_clock a.0 a.1 a.2 f at_rest.rest) ∙ a.4,
-          next_is net t p order is state tick f at_rest.rest
-              ∙ ap Some (next_too a.0 a.1 a.2 f at_rest.rest ∙ sym (next_words net is.whole is.writable.no_arrays state a.0 a.1 tick) ∙ a.5),
+          next_too a.0 a.1 a.2 f at_rest.rest ∙ ap Some a.5,
         )
 
   pub parts_allow : (state : List ℕ) (tick : Tick) (shown : List ℕ) (clocks : List (Option ℕ)) (after : List ℕ)

@@ -12,7 +12,7 @@ use Rattle.fir_net.specs.declared.leaf.Leaf.{Leaf}
 use Rattle.fir_net.specs.declared.net.FlatNet.{FlatNet}
 use Rattle.fir_net_names.specs.declared.name_table.NameTable.{NameTable}
 use Rattle.fir_net.specs.working.IsNet.{is_port, IsRole}
-use Rattle.ver_ast.specs.Nets.{regs, blocks, block_targets, names_of}
+use Rattle.ver_ast.specs.Nets.{regs, block_targets, names_of}
 use Rattle.ver_build.specs.declared.places.Places.{Places}
 use Rattle.ver_build.specs.Arranged.{marked}
 use Rattle.ver_build.specs.working.Places.{clock_in}
@@ -21,10 +21,10 @@ use Rattle.ver_build.proofs.Names.{NameList, Each, zipped}
 use Rattle.ver_build.proofs.Premises.{Premises, Whole}
 use Rattle.ver_build.proofs.OrderedLeaves.{ordered_names, ordered_leaves, ordered_whole}
 use Rattle.ver_build.proofs.WordLists.{words_given}
-use Rattle.ver_build.proofs.Parts.{in_parts}
+use Rattle.ver_build.proofs.Parts.{blocks_of, in_parts}
 use Rattle.fir_net.specs.working.Counted.{is_register}
 use Rattle.ver_build.proofs.LeafKinds.{is_clocked, is_written, name_if, no_name, picked, picked_names}
-use Rattle.ver_build.proofs.Nets.{registers_sized, blocks_are}
+use Rattle.ver_build.proofs.Nets.{registers_sized}
 use Rattle.ver_build.proofs.Driven.{block_targets_are}
 use Rattle.ver_build.proofs.ClockEnds.{ends_at, has_clock}
 
@@ -123,7 +123,7 @@ module _ (net : FlatNet) (t : NameTable) (p : Places) (order : List Read) (is : 
 
   registers_are : registers_along (ordered_names net t) (ordered_leaves net) ≡ net_registers net
   registers_are =
-      words_given net t is.whole is.table (λ l n. named_register l.role n) (record { ports = λ l n e. no_port_register l.role n e })
+      words_given net t is.whole is.table is.pipes (λ l n. named_register l.role n) (record { ports = λ l n e. no_port_register l.role n e })
       (λ k. word_register (slice_get net.leaves k)) (λ k l name at kind named. rw at (register_named l.role name))
 
   abbrev pub marks : List Bool
@@ -134,7 +134,7 @@ module _ (net : FlatNet) (t : NameTable) (p : Places) (order : List Read) (is : 
       subst (λ (rs : List Register). AreMarked net rs marks) registers_are
       (blocks_along (ordered_names net t) (ordered_leaves net) (ordered_whole net t is.whole is.table))
 
-  pub blocks_marked : block_targets (blocks (in_parts net t p order)) ≡ marked marks (names_of (regs (in_parts net t p order)))
+  pub blocks_marked : block_targets (blocks_of net t p order) ≡ marked marks (names_of (regs (in_parts net t p order)))
   blocks_marked =
-      ap block_targets (blocks_are net t p order) ∙ block_targets_are net t p order is.whole is.table ∙ sym (names_marked clock (ordered_names net t) (ordered_leaves net))
+      block_targets_are net t p order is.whole is.table is.pipes ∙ sym (names_marked clock (ordered_names net t) (ordered_leaves net))
       ∙ ap (marked marks) (sym (ap names_of (registers_sized net t p order) ∙ picked_names is_register (ordered_names net t) (ordered_leaves net)))

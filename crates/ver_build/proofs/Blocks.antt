@@ -33,7 +33,7 @@ use Rattle.ver_build.proofs.ResetNames.{IsBit, HasNet, bit_source, reset_view}
 use Rattle.ver_build.proofs.Sizes.{IsSized, leaf_is_sized, inner_among}
 use Rattle.ver_build.proofs.OperandAtoms.{atom_fits}
 use Rattle.ver_build.proofs.ReadsStand.{size_at, leaf_at, word_role, word_reset, read_stands}
-use Rattle.ver_build.proofs.Fitting.{BlockAmong, part_among, atom_among}
+use Rattle.ver_build.proofs.Fitting.{BlockAmong, known_names, net_known, part_among, atom_among}
 use Rattle.ver_build.proofs.ClockEnds.{IsClockInput, ends_at, clock_is_port}
 use Rattle.ver_build.specs.working.ArrayBlocks.{write_inners}
 
@@ -119,18 +119,21 @@ module _ (net : FlatNet) (t : NameTable) (p : Places) (order : List Read) (is : 
 
   pub block_sound : (b : AlwaysBlock) → In (blocks_of net t p order) b → IsSoundBlock (in_parts net t p order) b
   block_sound b m =
-      let o = block_of net t p is.whole is.table b m in
+      let o = block_of net t p is.whole is.table is.pipes b m in
       all_at (IsSoundBlock (in_parts net t p order)) (register_block net t p o.number o.word) (word_sound o.number o.among o.word o.word.own.reset refl) b o.inside
 
-  -- the names of clocks and of nets
+  -- the names of clocks, of nets and of arrays
   abbrev pub block_names : List (List ℕ)
-  block_names = clocks (in_parts net t p order) ++ names_of (sizes net t p order)
+  block_names = clocks (in_parts net t p order) ++ known_names net t p order is
 
-  clock_named : (n : List ℕ) → In (clocks (in_parts net t p order)) n → In block_names n
-  clock_named n m = in_left (clocks (in_parts net t p order)) (names_of ns) n m
+  pub clock_named : (n : List ℕ) → In (clocks (in_parts net t p order)) n → In (block_names) n
+  clock_named n m = in_left (clocks (in_parts net t p order)) (known_names net t p order is) n m
+
+  pub net_among : (n : List ℕ) → In (names_of (sizes net t p order)) n → In (block_names) n
+  net_among n m = in_right (clocks (in_parts net t p order)) (known_names net t p order is) n (net_known net t p order is n m)
 
   net_named : (n : List ℕ) (w : ℕ) → In ns (n, w) → In block_names n
-  net_named n w m = in_right (clocks (in_parts net t p order)) (names_of ns) n (in_map (λ (s : SizedNet). s.0) ns (n, w) m)
+  net_named n w m = net_among n (in_map (λ (s : SizedNet). s.0) ns (n, w) m)
 
   edge_among : (clock : Option ℕ) (s : Bool) (width : ℕ) (next : Option Read) (name : List ℕ) → In block_names name
       → ((k : ℕ) → clock ≡ Some k → IsClockInput net t k) → CanBeDriven net.leaves net.nodes s next
@@ -141,8 +144,7 @@ module _ (net : FlatNet) (t : NameTable) (p : Places) (order : List Read) (is : 
     clock_named _ (clock_is_port net t p order is i (c i refl)),
     (
       m,
-      each_more _ (names_of ns) block_names (λ x n. in_right (clocks (in_parts net t p order)) (names_of ns) x n)
-          (atom_among net t p order is width r can.can),
+      each_more _ (names_of ns) block_names net_among (atom_among net t p order is width r can.can),
     ),
   )
 
@@ -168,5 +170,5 @@ module _ (net : FlatNet) (t : NameTable) (p : Places) (order : List Read) (is : 
 
   pub block_among : (b : AlwaysBlock) → In (blocks_of net t p order) b → BlockAmong (block_names) b
   block_among b m =
-      let o = block_of net t p is.whole is.table b m in
+      let o = block_of net t p is.whole is.table is.pipes b m in
       all_at (BlockAmong block_names) (register_block net t p o.number o.word) (word_among o.number o.among o.word o.word.own.reset refl) b o.inside

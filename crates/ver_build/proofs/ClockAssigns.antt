@@ -14,7 +14,7 @@ use Rattle.ver_build.specs.declared.places.Places.{Places}
 use Rattle.ver_build.specs.working.Built.{inners}
 use Rattle.ver_build.proofs.Premises.{Premises}
 use Rattle.ver_build.proofs.OrderedLeaves.{ordered_names, ordered_leaves, ordered_once}
-use Rattle.ver_build.proofs.Parts.{registers_of, wires_of, assigns_of, clock_assigns_of, blocks_of, in_parts}
+use Rattle.ver_build.proofs.Parts.{registers_of, arrays_of, wires_of, assigns_of, clock_assigns_of, all_blocks_of, in_parts}
 use Rattle.ver_build.proofs.ItemLists.{assigns_among, clock_assigns_among}
 use Rattle.ver_build.proofs.LeafKinds.{is_output, is_clock_output, picked}
 use Rattle.ver_build.proofs.Picked.{picked_once, picked_apart}
@@ -53,13 +53,13 @@ module _ (net : FlatNet) (t : NameTable) (p : Places) (order : List Read) (is : 
 
   pub assigns_are : assigns (in_parts net t p order) ≡ assigns_of net t p order
   assigns_are =
-      assigns_among (registers_of net t p order) (wires_of net t p order) (assigns_of net t p order) (clock_assigns_of net t p order)
-      (blocks_of net t p order) (output_clocks (in_parts net t p order)) others own
+      assigns_among (registers_of net t p order) (arrays_of net t p order) (wires_of net t p order) (assigns_of net t p order) (clock_assigns_of net t p order)
+      (all_blocks_of net t p order) (output_clocks (in_parts net t p order)) others own
 
   pub clock_assigns_are : clock_assigns (in_parts net t p order) ≡ clock_assigns_of net t p order
   clock_assigns_are =
-      clock_assigns_among (registers_of net t p order) (wires_of net t p order) (assigns_of net t p order) (clock_assigns_of net t p order)
-      (blocks_of net t p order) (output_clocks (in_parts net t p order)) others own
+      clock_assigns_among (registers_of net t p order) (arrays_of net t p order) (wires_of net t p order) (assigns_of net t p order) (clock_assigns_of net t p order)
+      (all_blocks_of net t p order) (output_clocks (in_parts net t p order)) others own
 
   -- each clock output has one
   pub clock_targets : targets (clock_assigns (in_parts net t p order)) ≡ output_clocks (in_parts net t p order)

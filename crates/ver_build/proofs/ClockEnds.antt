@@ -17,6 +17,7 @@ use Rattle.fir_net.specs.working.Settled.{clock_driver}
 use Rattle.ver_ast.specs.Nets.{clocks}
 use Rattle.ver_build.specs.declared.places.Places.{Places}
 use Rattle.ver_build.specs.working.Places.{clock_in, place_clock, placed, driven_clock_in}
+use Rattle.fir_net.specs.working.IsWritable.{EndsAt, input as ends_there, driven as ends_behind}
 use Rattle.ver_build.specs.working.BlockRegisters.{EndsAtInput, input, handed_on}
 use Rattle.ver_build.proofs.AlongOrder.{along_order}
 use Rattle.ver_build.proofs.Premises.{Premises, LeafNamed}
@@ -40,6 +41,7 @@ pub record IsClockInput (net : FlatNet) (t : NameTable) (k : ℕ) : Type 0 where
 pub record IsClockedBy (net : FlatNet) (t : NameTable) (j k : ℕ) : Type 0 where
   pub clock : IsClockInput net t k
   pub ends : EndsAtInput net j
+  pub there : EndsAt net j k
 
 module _ (net : FlatNet) (t : NameTable) (p : Places) (order : List Read) (is : Premises net t p order) where
   -- what the places say of a clock leaf
@@ -67,14 +69,22 @@ module _ (net : FlatNet) (t : NameTable) (p : Places) (order : List Read) (is : 
   driven_ends j l r None k at e d reads below ends = absurd (cc)
   driven_ends j l r (Some i) k at e d reads below ends =
       let first = below (read.Leaf i) (reads i refl) i k refl ends in
-      record { clock = first.clock; ends = handed_on j i l at (ap clock_driver e ∙ d) first.ends }
+      record {
+        clock = first.clock;
+        ends = handed_on j i l at (ap clock_driver e ∙ d) first.ends;
+        there = ends_behind j i k l at (ap clock_driver e ∙ d) first.there;
+      }
 
   role_ends : (j : ℕ) (l : Leaf) (r : Role) (k : ℕ) → slice_get net.leaves j ≡ Some l → l.role ≡ r
       → ((w : Read) → Reads net (read.Leaf j) w → Ends w) → place_clock (placed p.leaves p.nodes p.readings (name_at t.leaves j) j l.signed l.width r) ≡ Some k
       → IsClockedBy net t j k
   role_ends j l role.Clock k at e below ends =
       let same : j ≡ k = cc in
-      record { clock = subst (IsClockInput net t) same (clock_input j l at e); ends = input j l at e }
+      record {
+        clock = subst (IsClockInput net t) same (clock_input j l at e);
+        ends = input j l at e;
+        there = subst (EndsAt net j) same (ends_there j l at e);
+      }
   role_ends j l (role.ClockOutput c) k at e below ends =
       driven_ends j l (role.ClockOutput c) c k at e refl (λ i same. leaf_read net j l (role.ClockOutput c) 0 (read.Leaf i) at e (rw same refl)) below ends
   role_ends j l (role.ClockWire c) k at e below ends =

@@ -12,6 +12,7 @@ use Rattle.fir_net.specs.declared.leaf.Role.{Role}
 use Rattle.fir_net.specs.declared.leaf.Role.TheVariants as role
 use Rattle.fir_net.specs.declared.net.FlatNet.{FlatNet}
 use Rattle.fir_net.specs.working.IsNet.{is_port, IsNet}
+use Rattle.fir_net.specs.working.IsWritable.{HasNoPipes}
 use Rattle.fir_net_names.specs.declared.name_table.NameTable.{NameTable}
 use Rattle.fir_net_names.specs.working.IsTable.{IsTable}
 use Rattle.ver_ast.specs.declared.tree.Assign.{Assign}
@@ -100,11 +101,11 @@ module _ (net : FlatNet) (t : NameTable) (p : Places) (order : List Read) where
       map_zipped (λ (a : Assign). a.target) (leaf_clock_assign t p) (λ l n. name_if (is_clock_output l.role) n) (λ l n. clock_target t p l.role n)
       (ordered_names net t) (ordered_leaves net)
 
-  module _ (whole : IsNet net) (table : IsTable net t) where
+  module _ (whole : IsNet net) (table : IsTable net t) (pipes : HasNoPipes net) where
     pub block_targets_are : block_targets (blocks_of net t p order) ≡ picked (is_written (clock_in p.leaves)) (ordered_names net t) (ordered_leaves net)
     block_targets_are =
         flat_parts block_target (word_block net t p) net.state
-        ∙ sym (words_given net t whole table (λ l n. name_if (is_written (clock_in p.leaves) l.role) n)
+        ∙ sym (words_given net t whole table pipes (λ l n. name_if (is_written (clock_in p.leaves) l.role) n)
         (record { ports = λ l n e. written_inside (clock_in p.leaves) l.role n e }) (λ (k : ℕ). block_targets (word_block net t p k))
         (λ k l name at kind named. sym (rw (at, named) (role_target t p k l.role l.width name))))
 
@@ -114,6 +115,6 @@ module _ (net : FlatNet) (t : NameTable) (p : Places) (order : List Read) where
         ap (map (λ (b : Resetting). b.target)) (flat_parts block_reset (word_block net t p) net.state)
         ∙ flat_mapped (λ (b : Resetting). b.target) (λ (k : ℕ). flat_map block_reset (word_block net t p k)) (λ (k : ℕ). targets_reset (word_block net t p k))
         (λ k. refl) net.state
-        ∙ sym (words_given net t whole table (λ l n. name_if (is_reset l.role) n) (record { ports = λ l n e. reset_inside l.role n e })
+        ∙ sym (words_given net t whole table pipes (λ l n. name_if (is_reset l.role) n) (record { ports = λ l n e. reset_inside l.role n e })
         (λ (k : ℕ). targets_reset (word_block net t p k))
         (λ k l name at kind named. sym (rw (at, named) (role_reset t p k l.role l.width name))))

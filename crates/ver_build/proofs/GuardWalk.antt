@@ -1,10 +1,9 @@
 -- The walk along the arrays of the state for the nets of their writes: each write that needs them gets the next two free inner names.
 -- An array stands once, so what has been noted for it stays.
-use Rattle.std.proofs.Common.{◌≡◌, ℕ, suc, ◌+◌, ◌*◌, ◌^◌, ◌<◌, ◌≤◌, List, [], ◌∷◌, ◌++◌, length, get_or, take, drop, flat_map, Bool, refl, sym, ap, ◌∙◌, inl, inr, ◌⊎◌, ⊎_elim, subst, arith, Option, Some, None, unwrap_or, append-nil}
+use Rattle.std.proofs.Common.{◌≡◌, ℕ, suc, ◌+◌, ◌^◌, ◌<◌, ◌≤◌, List, [], ◌∷◌, ◌++◌, length, get_or, take, drop, flat_map, refl, sym, ap, ◌∙◌, inl, ⊎_elim, subst, arith, Option, Some, None, unwrap_or, append-nil}
 use Rattle.std.specs.Prelude.{slice_get}
 use Rattle.std.specs.Option.{is_some}
 use Rattle.std.specs.List.{AllByRecursion}
-use Rattle.std.proofs.Math.ListN.{set}
 use Rattle.std.proofs.lemmas.List.{length-set, take_more, take-append-drop, length-append}
 use Rattle.std.proofs.lemmas.Bool.{cases_lt}
 use Rattle.std.proofs.lemmas.Grind.{flat_map-append}
@@ -13,7 +12,7 @@ use Rattle.std.proofs.Math.Seq.{drop-cons, take-length}
 use Rattle.fir_base.specs.Lists.{In, Distinct}
 use Rattle.fir_base.proofs.Each.{all_joined}
 use Rattle.fir_base.proofs.Elements.{there as there_is, get_left, get_behind}
-use Rattle.fir_base.proofs.Members.{in_left, in_right, in_either}
+use Rattle.fir_base.proofs.Members.{in_either}
 use Rattle.fir_base.proofs.Twins.{apart}
 use Rattle.ver_words.specs.Names.{IsName}
 use Rattle.fir_net.specs.declared.array.Array.{Array}

@@ -1,23 +1,27 @@
--- What registers, wires, assigns and blocks declare and drive, where they stand one behind the other.
-use Rattle.std.proofs.Common.{◌≡◌, ℕ, List, [], ◌∷◌, ◌++◌, true, false, refl, ap, ◌∙◌, inl, inr, ⊎_elim, append-nil}
+-- What registers, arrays, wires, assigns and blocks declare and drive, where they stand one behind the other.
+use Rattle.std.proofs.Common.{◌≡◌, ℕ, ◌+◌, List, [], ◌∷◌, ◌++◌, true, false, refl, ap, ◌∙◌, inl, inr, ⊎_elim, append-nil}
 use Rattle.std.specs.Prelude.{map, flat_map}
 use Rattle.std.proofs.lemmas.Grind.{flat_map-append}
 use Rattle.fir_base.specs.Lists.{In}
 use Rattle.fir_base.specs.Words.{is_among}
 use Rattle.ver_ast.specs.declared.tree.Net.{Net}
+use Rattle.ver_ast.specs.declared.tree.Array.{Array as TreeArray}
 use Rattle.ver_ast.specs.declared.tree.Assign.{Assign}
 use Rattle.ver_ast.specs.declared.tree.Always.{Always}
 use Rattle.ver_ast.specs.declared.tree.Resetting.{Resetting}
 use Rattle.ver_ast.specs.declared.tree.Writing.{Writing}
 use Rattle.ver_ast.specs.declared.tree.Item.{Item}
 use Rattle.ver_ast.specs.declared.tree.Item.TheVariants as item
-use Rattle.ver_ast.specs.Nets.{SizedNet, AlwaysBlock, plain_block, resetting_block, writing_block, wire_net, reg_net, item_net, item_array, item_assign, item_clock_assign, item_block}
+use Rattle.ver_ast.specs.Nets.{SizedNet, Variable, AlwaysBlock, plain_block, resetting_block, writing_block, wire_net, reg_net, item_net, item_array, item_assign, item_clock_assign, item_block}
 use Rattle.ver_ast.proofs.Chosen.{is_named, in_or_not}
 use Rattle.ver_build.specs.Arranged.{block_item}
 use Rattle.ver_build.specs.working.Built.{items}
 
 abbrev pub net_sized : Net → SizedNet
 net_sized n = (n.name, n.width)
+
+abbrev pub array_sized : TreeArray → Variable
+array_sized a = record { name = a.name; width = a.width; depth = a.last + 1 }
 
 none_among : {A C : Type 0} → (f : Item → List C) (c : A → Item) (xs : List A) → ((x : A) → In xs x → f (c x) ≡ []) → flat_map f (map c xs) ≡ []
 none_among f c [] e = refl
@@ -66,15 +70,16 @@ clock_unless : (outs : List (List ℕ)) (a : Assign) → (In outs a.target → �
 clock_unless outs a n =
     ⊎_elim (λ (m : In outs a.target). absurd (n m)) (λ (e : is_among outs a.target ≡ false). rw e refl) (in_or_not outs a.target)
 
-module _ (rs ws : List Net) (xs cs : List Assign) (bs : List AlwaysBlock) where
+module _ (rs : List Net) (ks : List TreeArray) (ws : List Net) (xs cs : List Assign) (bs : List AlwaysBlock) where
   by_parts : {C : Type 0} → (f : Item → List C)
-      → flat_map f (items rs [] ws xs cs bs) ≡ flat_map f (map item.Reg rs) ++
-      (flat_map f (map item.Wire ws) ++ (flat_map f (map item.Assign xs) ++ (flat_map f (map item.Assign cs) ++ flat_map f (map block_item bs))))
+      → flat_map f (items rs ks ws xs cs bs) ≡ flat_map f (map item.Reg rs) ++
+      (flat_map f (map item.Array ks) ++ (flat_map f (map item.Wire ws) ++ (flat_map f (map item.Assign xs) ++ (flat_map f (map item.Assign cs) ++ flat_map f (map block_item bs)))))
   by_parts f = simp flat_map-append
 
-  pub registers_among : flat_map reg_net (items rs [] ws xs cs bs) ≡ map net_sized rs
+  pub registers_among : flat_map reg_net (items rs ks ws xs cs bs) ≡ map net_sized rs
   registers_among =
       by_parts reg_net ∙ rw (
+        none_of reg_net item.Array (λ x. refl) ks,
         none_of reg_net item.Wire (λ x. refl) ws,
         none_of reg_net item.Assign (λ x. refl) xs,
         none_of reg_net item.Assign (λ x. refl) cs,
@@ -82,9 +87,10 @@ module _ (rs ws : List Net) (xs cs : List Assign) (bs : List AlwaysBlock) where
       )
       (append-nil (flat_map reg_net (map item.Reg rs)) ∙ each_of reg_net item.Reg net_sized (λ x. refl) rs)
 
-  pub wires_among : flat_map wire_net (items rs [] ws xs cs bs) ≡ map net_sized ws
+  pub wires_among : flat_map wire_net (items rs ks ws xs cs bs) ≡ map net_sized ws
   wires_among =
       by_parts wire_net ∙ rw (
+        none_of wire_net item.Array (λ x. refl) ks,
         none_of wire_net item.Reg (λ x. refl) rs,
         none_of wire_net item.Assign (λ x. refl) xs,
         none_of wire_net item.Assign (λ x. refl) cs,
@@ -92,9 +98,10 @@ module _ (rs ws : List Net) (xs cs : List Assign) (bs : List AlwaysBlock) where
       )
       (append-nil (flat_map wire_net (map item.Wire ws)) ∙ each_of wire_net item.Wire net_sized (λ x. refl) ws)
 
-  pub nets_among : flat_map item_net (items rs [] ws xs cs bs) ≡ map net_sized rs ++ map net_sized ws
+  pub nets_among : flat_map item_net (items rs ks ws xs cs bs) ≡ map net_sized rs ++ map net_sized ws
   nets_among =
       by_parts item_net ∙ rw (
+        none_of item_net item.Array (λ x. refl) ks,
         none_of item_net item.Assign (λ x. refl) xs,
         none_of item_net item.Assign (λ x. refl) cs,
         none_of item_net block_item (block_gives item_net (λ b. refl) (λ b. refl) (λ b. refl)) bs,
@@ -105,9 +112,10 @@ module _ (rs ws : List Net) (xs cs : List Assign) (bs : List AlwaysBlock) where
 
   -- the clock outputs are driven by assigns of their own
   module _ (outs : List (List ℕ)) (others : (a : Assign) → In xs a → In outs a.target → ⊥) (own : (a : Assign) → In cs a → In outs a.target) where
-    pub assigns_among : flat_map (item_assign outs) (items rs [] ws xs cs bs) ≡ xs
+    pub assigns_among : flat_map (item_assign outs) (items rs ks ws xs cs bs) ≡ xs
     assigns_among =
         by_parts (item_assign outs) ∙ rw (
+          none_of (item_assign outs) item.Array (λ x. refl) ks,
           none_of (item_assign outs) item.Reg (λ x. refl) rs,
           none_of (item_assign outs) item.Wire (λ x. refl) ws,
           none_among (item_assign outs) item.Assign cs (λ a m. one_if outs a (own a m)),
@@ -116,9 +124,10 @@ module _ (rs ws : List Net) (xs cs : List Assign) (bs : List AlwaysBlock) where
         (append-nil (flat_map (item_assign outs) (map item.Assign xs))
         ∙ each_among (item_assign outs) item.Assign (λ x. x) xs (λ a m. one_unless outs a (others a m)) ∙ same_map xs)
 
-    pub clock_assigns_among : flat_map (item_clock_assign outs) (items rs [] ws xs cs bs) ≡ cs
+    pub clock_assigns_among : flat_map (item_clock_assign outs) (items rs ks ws xs cs bs) ≡ cs
     clock_assigns_among =
         by_parts (item_clock_assign outs) ∙ rw (
+          none_of (item_clock_assign outs) item.Array (λ x. refl) ks,
           none_of (item_clock_assign outs) item.Reg (λ x. refl) rs,
           none_of (item_clock_assign outs) item.Wire (λ x. refl) ws,
           none_among (item_clock_assign outs) item.Assign xs (λ a m. clock_unless outs a (others a m)),
@@ -127,7 +136,7 @@ module _ (rs ws : List Net) (xs cs : List Assign) (bs : List AlwaysBlock) where
         (append-nil (flat_map (item_clock_assign outs) (map item.Assign cs))
         ∙ each_among (item_clock_assign outs) item.Assign (λ x. x) cs (λ a m. clock_if outs a (own a m)) ∙ same_map cs)
 
-  pub arrays_among : flat_map item_array (items rs [] ws xs cs bs) ≡ []
+  pub arrays_among : flat_map item_array (items rs ks ws xs cs bs) ≡ map array_sized ks
   arrays_among =
       by_parts item_array ∙ rw (
         none_of item_array item.Reg (λ x. refl) rs,
@@ -136,11 +145,12 @@ module _ (rs ws : List Net) (xs cs : List Assign) (bs : List AlwaysBlock) where
         none_of item_array item.Assign (λ x. refl) cs,
         none_of item_array block_item (block_gives item_array (λ b. refl) (λ b. refl) (λ b. refl)) bs,
       )
-      refl
+      (append-nil (flat_map item_array (map item.Array ks)) ∙ each_of item_array item.Array array_sized (λ x. refl) ks)
 
-  pub blocks_among : flat_map item_block (items rs [] ws xs cs bs) ≡ bs
+  pub blocks_among : flat_map item_block (items rs ks ws xs cs bs) ≡ bs
   blocks_among =
       by_parts item_block ∙ rw (
+        none_of item_block item.Array (λ x. refl) ks,
         none_of item_block item.Reg (λ x. refl) rs,
         none_of item_block item.Wire (λ x. refl) ws,
         none_of item_block item.Assign (λ x. refl) xs,

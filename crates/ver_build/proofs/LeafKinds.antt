@@ -35,7 +35,17 @@ is_wire (role.Reading r) = true
 is_wire (role.ClockWire c) = true
 is_wire _ = false
 
--- a port or a register that has bits
+-- what is read of an array
+abbrev pub is_reading : Role → Bool
+is_reading (role.Reading r) = true
+is_reading _ = false
+
+-- what has read an array at the last edge
+abbrev pub is_pipe : Role → Bool
+is_pipe (role.Pipe p) = true
+is_pipe _ = false
+
+-- a port, a register or a pipe that has bits
 abbrev pub has_name : Leaf → Bool
 has_name l = not (is_wire l.role) && not (nat_eq l.width 0)
 

@@ -75,7 +75,7 @@ module _ (net : FlatNet) (t : NameTable) (p : Places) (order : List Read) (is : 
     pub registers_same : Same is_register → map f (names_of (regs (in_parts net t p order))) ≡ map e (registers net)
     registers_same same =
         ap (λ (s : List SizedNet). map f (names_of s)) (registers_sized net t p order) ∙ ap (map f) (picked_names is_register (ordered_names net t) (ordered_leaves net))
-        ∙ word_names_listed net t is.whole is.table f e same
+        ∙ word_names_listed net t is.whole is.table is.pipes f e same
 
   module _ (e : ℕ → ℕ) (clock : ℕ → Option ℕ) (f : Env) (agrees : AgreesLeaves net t e clock f) where
     pub inputs_same : map f (names_of (v_inputs (in_parts net t p order))) ≡ map e (inputs net)

@@ -54,6 +54,7 @@ module _ (places : List Place) (nodes readings : List NodePlace) (k : ℕ) (x : 
   same_placed name m s w (role.Wire r) misses = ap (λ h. place.Value (fit w h)) (same_held r (misses.each 0 r refl))
   same_placed name m s w (role.Register r) misses = refl
   same_placed name m s w (role.Reading r) misses = refl
+  same_placed name m s w (role.Pipe q) misses = refl
   same_placed name m s w (role.ClockOutput c) misses = ap place.Clock (same_clock c (missed_clock c (role.ClockOutput c) refl misses))
   same_placed name m s w (role.ClockWire c) misses = ap place.Clock (same_clock c (missed_clock c (role.ClockWire c) refl misses))
 

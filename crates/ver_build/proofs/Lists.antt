@@ -80,3 +80,18 @@ flat_same {A} {B} f g (x ∷ xs) e =
 pub flat_parts : {A B C : Type 0} → (g : B → List C) (f : A → List B) (xs : List A) → flat_map g (flat_map f xs) ≡ flat_map (λ x. flat_map g (f x)) xs
 flat_parts g f [] = refl
 flat_parts {A} {B} {C} g f (x ∷ xs) = flat_map-append g (f x) (flat_map f xs) ∙ ap (λ (ys : List C). flat_map g (f x) ++ ys) (flat_parts g f xs)
+
+-- parts of one member each, and parts that are none
+pub flat_ones : {A B : Type 0} → (g : A → B) (xs : List A) → flat_map (λ x. g x ∷ []) xs ≡ map g xs
+flat_ones g [] = refl
+flat_ones {A} {B} g (x ∷ xs) = ap (λ (ys : List B). g x ∷ ys) (flat_ones g xs)
+
+pub flat_none : {A B : Type 0} → (f : A → List B) (xs : List A) → ((x : A) → In xs x → f x ≡ []) → flat_map f xs ≡ []
+flat_none f [] e = refl
+flat_none {A} {B} f (x ∷ xs) e =
+    ap (λ (ys : List B). ys ++ flat_map f xs) (e x (inl refl)) ∙ flat_none f xs (λ y m. e y (inr m))
+
+-- parts of what is made of each
+pub flat_made : {A B C : Type 0} → (g : B → List C) (f : A → B) (xs : List A) → flat_map g (map f xs) ≡ flat_map (λ x. g (f x)) xs
+flat_made g f [] = refl
+flat_made {A} {B} {C} g f (x ∷ xs) = ap (λ (ys : List C). g (f x) ++ ys) (flat_made g f xs)

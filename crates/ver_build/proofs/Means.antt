@@ -9,7 +9,7 @@ use Rattle.fir_net.specs.declared.net.FlatNet.{FlatNet}
 use Rattle.fir_net_names.specs.declared.name_table.NameTable.{NameTable}
 use Rattle.fir_net.specs.working.IsNet.{IsNet}
 use Rattle.fir_net.specs.working.IsOrder.{IsOrder}
-use Rattle.fir_net.specs.working.IsWritable.{IsWritable}
+use Rattle.fir_net.specs.working.IsWritable.{HasNoPipes, IsWritable}
 use Rattle.fir_net_names.specs.working.IsTable.{IsTable}
 use Rattle.fir_net_names.specs.working.TableNames.{table_names}
 use Rattle.fir_net.specs.working.Laws.{NodesHaveTheirValues, NodesHaveTheirTypes, OrderedHasOne}
@@ -27,15 +27,15 @@ use Rattle.ver_build.proofs.Shapes.{built_shape}
 use Rattle.ver_build.proofs.Allows.{parts_one, parts_allow}
 
 pub builds : NodesHaveTheirValues → NodesHaveTheirTypes → OrderedHasOne → ValidHasOneRest
-    → (net : FlatNet) (t : NameTable) (p : Places) (order : List Read) → IsNet net → IsWritable net → IsOrder net order → IsTable net t
+    → (net : FlatNet) (t : NameTable) (p : Places) (order : List Read) → IsNet net → IsWritable net → HasNoPipes net → IsOrder net order → IsTable net t
     → IsPlaces net t order p → Distinct (table_names t) → AllByRecursion IsName (table_names t) → IsName t.circuit
     → Builds net (built net t p order)
-builds values types one_choice one_rest net t p order whole writable ordered table places once spelled circuit =
+builds values types one_choice one_rest net t p order whole writable pipes ordered table places once spelled circuit =
     let is : Premises net t p order =
-    record { laws = record { values = values; types = types; one_choice = one_choice; one_rest = one_rest }; whole = whole; writable = writable; ordered = ordered; table = table; places = places; once = once; spelled = spelled; circuit = circuit } in
+    record { laws = record { values = values; types = types; one_choice = one_choice; one_rest = one_rest }; whole = whole; writable = writable; pipes = pipes; ordered = ordered; table = table; places = places; once = once; spelled = spelled; circuit = circuit } in
     let shapes = built_shape net t p order is in
     let valid = parts_valid net t p order is in
-    subst (Builds net) (sym (built_in_parts net t p order whole writable.no_arrays table))
+    subst (Builds net) (sym (built_in_parts net t p order whole table))
     (record {
       named = parts_named net t p order is;
       arranged = parts_arranged net t p order is;

@@ -1,12 +1,15 @@
 -- Where values are at rest in a tree, they are settled in its net, and in the tree.
 -- A leaf has the number of where it is, and a clock leaf that of the clock input at which its drivers end.
-use Rattle.std.proofs.Common.{◌≡◌, ℕ, ◌≤◌, List, [], map, Bool, true, false, not, ◌&&◌, ◌==◌, nat_eq, if◌then◌else◌, refl, sym, ap, ◌∙◌, ⊎_elim, subst, arith, Option, Some, None, unwrap_or, slice_index}
+use Rattle.std.proofs.Common.{◌≡◌, ℕ, ◌≤◌, List, [], length, map, Bool, true, false, not, ◌&&◌, ◌==◌, nat_eq, if◌then◌else◌, refl, sym, ap, ◌∙◌, ⊎_elim, subst, arith, Option, Some, None, unwrap_or, slice_index}
 use Rattle.std.specs.Prelude.{slice_get, IsSome}
 use Rattle.fir_base.specs.Lists.{In}
 use Rattle.fir_base.specs.Ticks.{Env, Tick, Shape, HasShape}
 use Rattle.fir_base.proofs.Each.{all_at}
 use Rattle.fir_base.proofs.Members.{in_left, in_right, in_either, in_map_from}
-use Rattle.fir_base.proofs.Elements.{beside, get_in}
+use Rattle.fir_base.proofs.Elements.{beside, get_in, number_of}
+use Rattle.fir_net.specs.declared.array.Array.{Array}
+use Rattle.fir_net.specs.declared.array.ArrayRead.{ArrayRead}
+use Rattle.fir_net.specs.working.Arrays.{begin_of, word_in, words_of}
 use Rattle.fir_net.specs.declared.reads.Read.{Read}
 use Rattle.fir_net.specs.declared.leaf.Reset.{Reset}
 use Rattle.fir_net.specs.declared.leaf.Register.{Register}
@@ -22,17 +25,17 @@ use Rattle.fir_inits.specs.working.InitValues.{init_at}
 use Rattle.fir_net.specs.working.Values.{at_width}
 use Rattle.fir_net.specs.working.IsNet.{CanRead, IsRole}
 use Rattle.fir_net_names.specs.working.LeafNamed.{name_at}
-use Rattle.fir_net.specs.working.Settled.{value_at, is_clock, driver, clock_driver, driven_clock, is_high, shown, shown_by, Settled, clocks, registers, shape as net_shape}
-use Rattle.fir_net.specs.working.Next.{next_word}
+use Rattle.fir_net.specs.working.Settled.{value_at, is_clock, driver, clock_driver, driven_clock, is_high, is_read, shown, shown_by, word_read, Settled, clocks, registers, shape as net_shape}
 use Rattle.ver_ast.specs.declared.tree.Assign.{Assign}
 use Rattle.ver_ast.specs.declared.tree.Rhs.{Rhs}
 use Rattle.ver_ast.specs.declared.tree.Rhs.TheVariants as rhs
 use Rattle.ver_ast.specs.Atoms.{AtomTree}
-use Rattle.ver_ast.specs.Nets.{SizedNet, variables, regs, resets, assigns, clocks as v_clocks, shape as v_shape}
-use Rattle.ver_ast.specs.Stores.{store_of, stored}
+use Rattle.ver_ast.specs.Nets.{SizedNet, variables, resets, assigns, clocks as v_clocks, shape as v_shape}
+use Rattle.ver_ast.specs.Stores.{Store, store_of, stored}
 use Rattle.ver_ast.specs.Processes.{Process, assigning, showing, processes, wanted}
 use Rattle.ver_ast.specs.AtomValues.{atom_value}
-use Rattle.ver_build.proofs.SideValues.{side_value}
+use Rattle.ver_build.proofs.SideValues.{side_value, same_side}
+use Rattle.ver_ast.specs.SideValues.{rhs_value}
 use Rattle.ver_ast.specs.Settled.{Rest, VSettled}
 use Rattle.ver_ast.proofs.Widths.{declared_width}
 use Rattle.ver_build.specs.declared.held.Source.{Source}
@@ -41,36 +44,40 @@ use Rattle.ver_build.specs.declared.places.Places.{Places}
 use Rattle.ver_build.specs.declared.right_sides.Inner.{Inner}
 use Rattle.ver_build.specs.working.Held.{held_number, own_held, whole_net, fit}
 use Rattle.ver_build.specs.working.Operands.{atom_at}
-use Rattle.ver_build.specs.working.Places.{bit_net, place_value, place_clock, placed, held_of, node_at, clock_in, driven_clock_in}
+use Rattle.ver_build.specs.working.Places.{bit_net, place_value, place_clock, placed, held_of, node_at, clock_in, driven_clock_in, read_width}
 use Rattle.ver_build.specs.working.Blocks.{reset_net}
 use Rattle.ver_build.specs.working.Built.{inners, order_inners, reset_inners, node_inners, inner_assign, late_inners}
 use Rattle.ver_build.proofs.Premises.{Premises}
-use Rattle.ver_build.proofs.NoArrays.{no_reading, inner_either}
+use Rattle.ver_build.proofs.ReadingNets.{IsNothingRead, IsRead, IsReadNetted, reading_own, reading_view}
+use Rattle.ver_build.proofs.StateWords.{begins_nowhere}
 use Rattle.ver_build.proofs.TableLeaves.{leaf_named}
 use Rattle.ver_build.proofs.Parts.{in_parts}
 use Rattle.ver_build.proofs.LeafKinds.{is_wire, has_name, is_net}
 use Rattle.ver_build.proofs.Nets.{sizes}
-use Rattle.ver_build.proofs.Words.{IsWord, word_at, net_inner, net_in, net_of}
+use Rattle.ver_build.proofs.Words.{IsWord, word_at, net_inner, net_in}
 use Rattle.ver_build.proofs.ResetNames.{IsBit, HasNet, bit_source, reset_view}
-use Rattle.ver_build.proofs.Resting.{words, words_after, fits_target, side_is, word_state, plain_shows, reset_shows}
+use Rattle.ver_build.proofs.Resting.{words, fits_target, side_is, word_state, plain_shows, reset_shows}
 use Rattle.ver_build.proofs.Fitted.{fit_holds, whole_holds}
 use Rattle.ver_build.proofs.OperandAtoms.{atom_means}
-use Rattle.ver_build.proofs.Sizes.{IsSized, leaf_is_sized, inner_among, inner_of, inner_declared, sizes_once}
+use Rattle.ver_build.proofs.Sizes.{IsSized, InnerKind, of_node, of_reading, of_reset, of_guard, leaf_is_sized, inner_among, inner_kind, inner_declared, reading_among, reading_declared, sizes_once}
+use Rattle.ver_build.proofs.InnersSound.{node_sound}
+use Rattle.ver_build.proofs.Standing.{IsSoundInner}
 use Rattle.ver_build.proofs.ReadsStand.{leaf_at, size_at, word_kind, word_reset}
 use Rattle.ver_build.proofs.ClockEnds.{clock_at}
 use Rattle.ver_build.proofs.Blocks.{reset_among}
 use Rattle.ver_build.proofs.Assigns.{OutputAssign, inner_assign_in, output_assign_in, assign_from}
 use Rattle.ver_build.proofs.LeafValues.{AgreesLeaves, inputs_same, clocks_same}
-use Rattle.ver_build.proofs.NextStates.{shown_clock, Agrees, states_same}
+use Rattle.ver_build.proofs.NextStates.{shown_clock, Agrees}
 use Rattle.ver_build.proofs.SameConstants.{same_constant}
 use Rattle.ver_build.proofs.NodeValues.{leaf_values, nets_below, equation, has_type, leaves_fit, read_holds, node_valued}
+use Rattle.ver_build.proofs.ReadValues.{guard_valued, reading}
 use Rattle.ver_build.specs.working.ArrayBlocks.{write_inners}
 
 abbrev pub leaf_clocks : NameTable → Places → Env → ℕ → Option ℕ
 leaf_clocks t p f k = shown_clock t f (clock_in p.leaves k)
 
-some_atom : (ns : List SizedNet) (f : Env) (w : ℕ) (a : AtomTree) (r : Rhs) → rhs.Atom a ≡ r → IsSome (side_value ns f w r)
-some_atom ns f w a r same = subst (λ (x : Rhs). IsSome (side_value ns f w x)) same refl
+some_atom : (ns : List SizedNet) (store : Store) (f : Env) (w : ℕ) (a : AtomTree) (r : Rhs) → rhs.Atom a ≡ r → IsSome (rhs_value ns store f w r)
+some_atom ns store f w a r same = subst (λ (x : Rhs). IsSome (rhs_value ns store f w x)) same refl
 
 -- a value of one bit that is all of a net
 bit_whole : (h : Held) (name : List ℕ) → h.width ≡ 1 → bit_net h.source ≡ Some name → h ≡ whole_net name h.signed 1
@@ -158,6 +165,7 @@ module _ (net : FlatNet) (t : NameTable) (p : Places) (order : List Read) (is : 
       let has : has_name l ≡ true = rw named at (leaf_named net is.whole t is.table k l at) in
       let wire : (not (is_wire (role.Reading r)) && not (nat_eq l.width 0)) ≡ true = rw same at has in
       absurd (cc)
+  agreed_value k l (role.Pipe q) n at same plain named = absurd (is.pipes.none k l q at same)
   agreed_value k l _ n at same plain named = absurd (cc)
 
   pub agrees : AgreesLeaves net t (leaf_values p f) (leaf_clocks t p f) f
@@ -173,6 +181,53 @@ module _ (net : FlatNet) (t : NameTable) (p : Places) (order : List Read) (is : 
           clock_at net t p order is k l at ∙ ap (λ (r : Role). place_clock (placed p.leaves p.nodes p.readings (name_at t.leaves k) k l.signed l.width r)) same
           in
           sym (ap (shown_clock t f) root ∙ ap (λ o. Some (f (unwrap_or o []))) named)
+
+  -- what is read of an array
+  read_place : (k : ℕ) (l : Leaf) (r : ArrayRead) → slice_get net.leaves k ≡ Some l → l.role ≡ role.Reading r
+      → leaf_values p f k ≡ held_number f (node_at p.readings k).held
+  read_place k l r at same =
+      value_is k l at
+      ∙ ap (λ (d : Role). held_number f (place_value (placed p.leaves p.nodes p.readings (name_at t.leaves k) k l.signed l.width d))) same
+
+  nothing_word : (k : ℕ) (l : Leaf) (r : ArrayRead) → slice_get net.leaves k ≡ Some l → l.role ≡ role.Reading r → l.width ≡ 0
+      → ◌≡◌ {A = ℕ} 0 (word_read net state (leaf_values p f) r)
+  nothing_word k l r at same none =
+      let a = is.whole.readings k l r at same in
+      let wide : a.0.width ≡ 0 = a.2 ∙ none in
+      let nowhere : begin_of net r.array ≡ None =
+      begins_nowhere net t state net.array_order (length net.state) r.array
+      (λ m.
+      let place = number_of net.array_order r.array m in
+      let other = is.whole.array_state.only place.0 r.array place.1 in
+      let both : Some other.0 ≡ Some a.0 = sym other.1 ∙ a.1 in
+      let one : other.0 ≡ a.0 = cc in
+      let same_wide : other.0.width ≡ a.0.width = ap (λ (x : Array). x.width) one in
+      let bits : 1 ≤ other.0.width = other.2 in
+      omega arith) in
+      let number = (value_at net (leaf_values p f) r.address).value.number in
+      sym (ap (λ o. if is_read net (leaf_values p f) r then word_in state o number else 0) nowhere ∙ zero_both (is_read net (leaf_values p f) r))
+    where
+      zero_both : (b : Bool) → ◌≡◌ {A = ℕ} (if b then 0 else 0) 0
+      zero_both true = refl
+      zero_both false = refl
+
+  read_value : (k : ℕ) (l : Leaf) (r : ArrayRead) → slice_get net.leaves k ≡ Some l → l.role ≡ role.Reading r
+      → leaf_values p f k ≡ word_read net state (leaf_values p f) r
+  read_value k l r at same =
+      ⊎_elim
+      (λ (n : IsNothingRead l.signed l.width (node_at p.readings k)).
+      read_place k l r at same ∙ ap (held_number f) n.held ∙ nothing_word k l r at same n.none)
+      (λ (h : IsReadNetted net l.signed l.width r (node_at p.readings k)).
+      let read : IsRead net p k = record { leaf = l; at = at; read = r; reads = same; netted = h } in
+      let own =
+      reading_own (unwrap_or (name_at t.arrays r.array) []) (words_of net.arrays r.array) l.width (read_width net r.address)
+      (held_of p r.address) (held_of p r.enable) (node_at p.readings k).helpers h.name in
+      let among = inner_among net t p order is _ (reading_among net t p order is k read _ own.1) in
+      let holds =
+      whole_holds ns f h.name l.signed l.width h.some (leaf_at net t p order is k l at).narrow (reading_declared net t p order is k read)
+      (nets_below net t p order is state tick f rest h.name l.width among) in
+      read_place k l r at same ∙ ap (held_number f) h.held ∙ holds.number ∙ (reading net t p order is state tick f rest k read).0)
+      (reading_view net l.signed l.width r (node_at p.readings k) (is.places.nodes.read.each k l r at same))
 
   -- the clocks of clock leaves
   clock_inputs : (n k : ℕ) → slice_get (clocks net) n ≡ Some k → leaf_clocks t p f k ≡ Some n
@@ -237,11 +292,6 @@ module _ (net : FlatNet) (t : NameTable) (p : Places) (order : List Read) (is : 
   pub agree : Agrees net t p order (leaf_values p f) (leaf_clocks t p f) f
   agree = record { leaves = agrees; clocks = λ k l at c. refl; sources = source_value; resets = reset_value }
 
-  -- the states after the tick
-  pub next_state : map (λ (r : SizedNet). stored (words_after net t p order is state tick f rest) r.0) (regs (in_parts net t p order)) ≡ map
-      (next_word net (leaf_values p f) (leaf_clocks t p f) tick.clocks) (registers net)
-  next_state = states_same net t p order is state tick f rest (leaf_values p f) (leaf_clocks t p f) agree
-
   module _ (shapes : v_shape (in_parts net t p order) ≡ net_shape net) where
     shaped : HasShape (net_shape net) state tick
     shaped = subst (λ (s : Shape). HasShape s state tick) shapes rest.begins.shaped
@@ -280,7 +330,7 @@ module _ (net : FlatNet) (t : NameTable) (p : Places) (order : List Read) (is : 
         → leaf_values p f k ≡ shown net (leaf_values p f) l.width r.reset (slice_index state n)
     registers_show n k l r at leaf same =
         let m = get_in (registers net) n k at in
-        let w = word_at net t is.whole is.table k m in
+        let w = word_at net t is.whole is.table is.pipes k m in
         let there = w.at in
         let own = w.register in
         let one_leaf : w.leaf ≡ l = cc in
@@ -295,37 +345,41 @@ module _ (net : FlatNet) (t : NameTable) (p : Places) (order : List Read) (is : 
       fits = (leaves_fit net t p order is state tick f rest).each;
       input_values = sym (inputs_same net t p order is (leaf_values p f) (leaf_clocks t p f) f agrees) ∙ rest.begins.input_values;
       registers_show = registers_show;
-      arrays_read = λ k l r at same. absurd (no_reading net is.whole is.writable.no_arrays k l r at same);
+      pipes_show = λ n k l q at leaf same. absurd (is.pipes.none k l q leaf same);
+      arrays_read = read_value;
       driven = driven;
       clock_inputs = clock_inputs;
       clocks_driven = clocks_driven;
     }
 
-  order_valued : (i : Inner) (w : ℕ) → In (order_inners net t p order) i → In ns (i.name, w) → IsSome (side_value ns f w i.rhs)
-  order_valued i w m n =
-      let o = inner_of net t p order is i m in
-      let xs = node_inners p o.node (node_at p.nodes o.number).helpers o.netted.name in
-      let once = sizes_once net t p order is in
-      let declared = inner_declared net t p order is i (in_left (order_inners net t p order) (late_inners net p) i m) in
-      let width : i.width ≡ w = sym declared ∙ declared_width ns once i.name w n in
-      subst (λ (v : ℕ). IsSome (side_value ns f v i.rhs)) width
-      (all_at (λ (j : Inner). IsSome (side_value ns f j.width j.rhs)) xs
-      (node_valued net t p order is state tick f rest o.number o.node o.netted o.at) i o.inside)
+  abbrev stores : Store
+  stores = store_of (variables (in_parts net t p order)) state
 
-  inner_valued : (i : Inner) (w : ℕ) → In (inners net t p order) i → In ns (i.name, w) → IsSome (side_value ns f w i.rhs)
+  own_valued : (i : Inner) → In (inners net t p order) i → IsSome (rhs_value ns stores f i.width i.rhs)
+  own_valued i m = by (inner_kind net t p order is i m)
+    where
+      by : InnerKind net t p i → IsSome (rhs_value ns stores f i.width i.rhs)
+      by (of_node o) =
+          let xs = node_inners p o.node (node_at p.nodes o.number).helpers o.netted.name in
+          let sound = all_at (IsSoundInner ns) xs (node_sound net t p order is o.number o.node o.netted o.at) i o.inside in
+          subst IsSome (sym (same_side ns ns stores f i.width i.width i.rhs sound.side))
+          (all_at (λ (j : Inner). IsSome (side_value ns f j.width j.rhs)) xs
+          (node_valued net t p order is state tick f rest o.number o.node o.netted o.at) i o.inside)
+      by (of_reading o) = (reading net t p order is state tick f rest o.number o.is).1.each i o.inside
+      by (of_reset o) = some_atom ns stores f i.width (atom_at 1 (held_of p o.reset.condition)) i.rhs (ap (λ (j : Inner). j.rhs) (sym o.is))
+      by (of_guard o) = (guard_valued net t p order is state tick f rest o.array.array.words o.write o.guard).each i o.inside
+
+  inner_valued : (i : Inner) (w : ℕ) → In (inners net t p order) i → In ns (i.name, w) → IsSome (rhs_value ns stores f w i.rhs)
   inner_valued i w m n =
-      ⊎_elim
-      (λ (o : In (order_inners net t p order) i). order_valued i w o n)
-      (λ (r : In (reset_inners net p) i).
-      let o = net_of net t p is.whole is.table i r in some_atom ns f w (atom_at 1 (held_of p o.reset.condition)) i.rhs (ap (λ (j : Inner). j.rhs) (sym o.is)))
-      (in_either (order_inners net t p order) (reset_inners net p) i (inner_either net is.whole is.writable.no_arrays t p order i m))
+      let width : i.width ≡ w = sym (inner_declared net t p order is i m) ∙ declared_width ns (sizes_once net t p order is) i.name w n in
+      subst (λ (v : ℕ). IsSome (rhs_value ns stores f v i.rhs)) width (own_valued i m)
 
-  valued : (a : Assign) (w : ℕ) → In (assigns (in_parts net t p order)) a → In ns (a.target, w) → IsSome (side_value ns f w a.rhs)
+  valued : (a : Assign) (w : ℕ) → In (assigns (in_parts net t p order)) a → In ns (a.target, w) → IsSome (rhs_value ns stores f w a.rhs)
   valued a w m n =
       ⊎_elim
       (λ (x : (i : Inner) × In (inners net t p order) i × (inner_assign i ≡ a)).
-      subst (λ (b : Assign). In ns (b.target, w) → IsSome (side_value ns f w b.rhs)) x.2 (λ j. inner_valued x.0 w x.1 j) n)
-      (λ (o : OutputAssign net t p a). some_atom ns f w (atom_at o.leaf.width (held_of p o.source)) a.rhs o.right)
+      subst (λ (b : Assign). In ns (b.target, w) → IsSome (rhs_value ns stores f w b.rhs)) x.2 (λ j. inner_valued x.0 w x.1 j) n)
+      (λ (o : OutputAssign net t p a). some_atom ns stores f w (atom_at o.leaf.width (held_of p o.source)) a.rhs o.right)
       (assign_from net t p order is a m)
 
   process_valued : (q : Process) → In (processes (in_parts net t p order)) q
@@ -338,7 +392,7 @@ module _ (net : FlatNet) (t : NameTable) (p : Places) (order : List Read) (is : 
       (λ (i : In (map assigning xs) q).
       let a = in_map_from assigning xs q i in
       let sized = fits_target net t p order is state tick f rest a.0 a.1 in
-      subst Valued a.2 (subst IsSome (sym (side_is net t p order is state tick f rest a.0 sized.0 a.1 sized.1)) (valued a.0 sized.0 a.1 sized.1)))
+      subst Valued a.2 (subst IsSome (sym (side_is net t p order is state tick f rest a.0 sized.0 sized.1)) (valued a.0 sized.0 a.1 sized.1)))
       (λ (o : In (map showing bs) q). let b = in_map_from showing bs q o in subst Valued b.2 refl)
       (in_either (map assigning xs) (map showing bs) q m)
 

@@ -123,22 +123,22 @@ module _ (net : FlatNet) (t : NameTable) (p : Places) (order : List Read) (is : 
 
   -- each word has its next value there
   next_value : (k : ℕ) → In net.state k → (w : IsWord net t k)
-      → stored (words_after net t p order is state tick f rest) w.name ≡ next_word net e clock named k
+      → stored (words_after net t p order is state tick f rest) w.name ≡ next_word net e clock named state k
   next_value k m w =
       word_after net t p order is state tick f rest k m w ∙ word_next k m w w.own.reset refl
-      ∙ sym (ap (next_of net e clock named (e k)) w.at ∙ ap (next_by net e clock named w.leaf.width (e k)) w.register)
+      ∙ sym (ap (next_of net e clock named state (e k)) w.at ∙ ap (next_by net e clock named state w.leaf.width (e k)) w.register)
 
   pub states_same : map (λ (r : SizedNet). stored (words_after net t p order is state tick f rest) r.0) (regs (in_parts net t p order)) ≡ map
-      (next_word net e clock tick.clocks) (registers net)
+      (next_word net e clock tick.clocks state) (registers net)
   states_same =
       sym (map-map (stored (words_after net t p order is state tick f rest)) (λ (r : SizedNet). r.0) (regs (in_parts net t p order)))
-      ∙ registers_same net t p order is (next_word net e clock named) (stored (words_after net t p order is state tick f rest)) each
+      ∙ registers_same net t p order is (next_word net e clock named state) (stored (words_after net t p order is state tick f rest)) each
     where
       each : (k : ℕ) (l : Leaf) (name : List ℕ) → slice_get net.leaves k ≡ Some l → is_register l.role ≡ true → name_at t.leaves k ≡ Some name
-          → stored (words_after net t p order is state tick f rest) name ≡ next_word net e clock named k
+          → stored (words_after net t p order is state tick f rest) name ≡ next_word net e clock named state k
       each k l name at kind has =
           let m = named_word net t is.whole is.table k l name at kind has in
-          let w = word_at net t is.whole is.table k m in
+          let w = word_at net t is.whole is.table is.pipes k m in
           let own = w.named in
           let same : w.name ≡ name = cc in
-          subst (λ (n : List ℕ). stored (words_after net t p order is state tick f rest) n ≡ next_word net e clock named k) same (next_value k m w)
+          subst (λ (n : List ℕ). stored (words_after net t p order is state tick f rest) n ≡ next_word net e clock named state k) same (next_value k m w)

@@ -6,7 +6,7 @@ use Rattle.std.specs.List.{AllByRecursion}
 use Rattle.std.proofs.lemmas.Option.{slice_get_within}
 use Rattle.fir_base.specs.Lists.{In}
 use Rattle.fir_base.specs.Ticks.{Env, Tick}
-use Rattle.fir_base.proofs.Each.{all_from}
+use Rattle.fir_base.proofs.Each.{all_at, all_from}
 use Rattle.fir_base.proofs.Elements.{there, all_there}
 use Rattle.fir_bits.specs.working.Types.{typed}
 use Rattle.fir_bits.specs.Operators.{no_operand}
@@ -25,8 +25,10 @@ use Rattle.fir_net.specs.working.Dependence.{support_of, IsOf, Reads}
 use Rattle.fir_net.specs.working.IsNet.{node_type, read_type, CanRead, IsNode, IsChoice}
 use Rattle.fir_net.specs.working.Laws.{LeavesFit}
 use Rattle.ver_ast.specs.declared.tree.Assign.{Assign}
-use Rattle.ver_ast.specs.Nets.{SizedNet, assigns}
-use Rattle.ver_build.proofs.SideValues.{side_value}
+use Rattle.ver_ast.specs.Nets.{SizedNet, assigns, variables}
+use Rattle.ver_build.proofs.SideValues.{side_value, same_side}
+use Rattle.ver_ast.specs.SideValues.{rhs_value}
+use Rattle.ver_ast.specs.Stores.{store_of}
 use Rattle.ver_ast.specs.Settled.{Rest}
 use Rattle.ver_build.specs.declared.held.Source.{Source}
 use Rattle.ver_build.specs.declared.held.Source.TheVariants as source
@@ -39,7 +41,8 @@ use Rattle.ver_build.proofs.AlongOrder.{along_order}
 use Rattle.ver_build.proofs.Premises.{Premises, all_by_number}
 use Rattle.ver_build.proofs.Parts.{in_parts}
 use Rattle.ver_build.proofs.Nets.{sizes, nets_sized}
-use Rattle.ver_build.proofs.Standing.{IsSource, FitsSource, Holds, AllHold, DeclaresInners, FitsInners, RestInners, HaveValues}
+use Rattle.ver_build.proofs.Standing.{IsSource, FitsSource, Holds, AllHold, DeclaresInners, FitsInners, IsSoundInner, RestInners, HaveValues}
+use Rattle.ver_build.proofs.InnersSound.{node_sound}
 use Rattle.ver_build.proofs.Fitted.{held_below, whole_holds}
 use Rattle.ver_build.proofs.NodeMeaning.{operation_means, choice_means}
 use Rattle.ver_build.proofs.NodeNets.{IsLiteral, IsEmpty, IsNetted, node_view}
@@ -71,7 +74,7 @@ module _ (net : FlatNet) (t : NameTable) (p : Places) (order : List Read) (is : 
   nets_below n w m = rest.fits n w (subst (λ (xs : List SizedNet). In xs (n, w)) (sym (nets_sized net t p order is)) m)
 
   pub equation : (a : Assign) (w : ℕ) → In (assigns (in_parts net t p order)) a → In (sizes net t p order) (a.target, w)
-      → f a.target ≡ unwrap_or (side_value (sizes net t p order) f w a.rhs) 0
+      → f a.target ≡ unwrap_or (rhs_value (sizes net t p order) (store_of (variables (in_parts net t p order)) state) f w a.rhs) 0
   equation a w m n = assign_equation net t p order is state tick f rest a w m n
 
   source_fits : (w : ℕ) (s : Source) → IsSource ns w s → FitsSource f s
@@ -149,7 +152,10 @@ module _ (net : FlatNet) (t : NameTable) (p : Places) (order : List Read) (is : 
     node_rests : RestInners ns f xs
     node_rests =
         all_from (λ (i : Inner). f i.name ≡ unwrap_or (side_value ns f i.width i.rhs) 0) xs
-        (λ i m. equation (inner_assign i) i.width (inner_assign_in net t p order is i (inners_among net t p order is k n h at i m)) (among i m))
+        (λ i m.
+        let sound = all_at (IsSoundInner ns) xs (node_sound net t p order is k n h at) i m in
+        equation (inner_assign i) i.width (inner_assign_in net t p order is i (inners_among net t p order is k n h at i m)) (among i m)
+        ∙ ap (λ (o : Option ℕ). unwrap_or o 0) (same_side ns ns (store_of (variables (in_parts net t p order)) state) f i.width i.width i.rhs sound.side))
 
     pub node_means : AllByRecursion There (support_of n) → HaveValues ns f xs × (f h.name ≡ (node_value net.leaves e (values net e) n).value.number)
     node_means there =

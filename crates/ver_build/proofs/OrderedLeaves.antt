@@ -18,7 +18,7 @@ use Rattle.fir_net.specs.declared.leaf.Role.TheVariants as role
 use Rattle.fir_net.specs.declared.leaf.Leaf.{Leaf}
 use Rattle.fir_net.specs.declared.net.FlatNet.{FlatNet}
 use Rattle.fir_net.specs.working.Counted.{is_register}
-use Rattle.fir_net.specs.working.IsNet.{is_port, IsLeaf, IsNet, AreInside, ArePortsFirst}
+use Rattle.fir_net.specs.working.IsNet.{is_port, IsLeaf, IsNet, AreInside, ArePortsFirst, is_state}
 use Rattle.fir_net_names.specs.declared.name_table.NameTable.{NameTable}
 use Rattle.fir_net_names.specs.Names.{is_free, inner_name}
 use Rattle.ver_words.specs.Reserved.{is_reserved}
@@ -226,8 +226,9 @@ name_below [] k name e = absurd (cc)
 name_below (n ∷ names) zero name e = omega arith
 name_below (n ∷ names) (suc k) name e = omega (arith, name_below names k name e)
 
-no_port : (r : Role) → is_register r ≡ true → is_port r ≡ false
+no_port : (r : Role) → is_state r ≡ true → is_port r ≡ false
 no_port (role.Register d) e = refl
+no_port (role.Pipe q) e = refl
 no_port _ e = absurd (cc)
 
 inner_same : (taken others : List (List ℕ)) → ((x : List ℕ) → is_among taken x ≡ is_among others x) → (from to : ℕ) (names : List (List ℕ))
@@ -254,7 +255,7 @@ module _ (net : FlatNet) (t : NameTable) (whole : IsNet net) (table : IsTable ne
   word_inside : (k : ℕ) → In net.state k → (l : Leaf) × (slice_get net.leaves k ≡ Some l) × (is_port l.role ≡ false)
   word_inside k m =
       let word = word_leaf net whole k m in
-      (word.0, word.1, no_port word.0.role (and_parts (is_register word.0.role) (not (nat_eq word.0.width 0)) word.2).0)
+      (word.0, word.1, no_port word.0.role (and_parts (is_state word.0.role) (not (nat_eq word.0.width 0)) word.2).0)
 
   port_first : (k : ℕ) → In (named_ports 0 net.leaves) k → (l : Leaf) × (slice_get net.leaves k ≡ Some l) × (is_port l.role ≡ true)
   port_first k m = let port = port_at net.leaves k m in (port.leaf, port.at, port.port)

@@ -2,7 +2,7 @@
 -- The nets of a node come at the node, each behind all that it reads; what comes at leaves is given. Where at each leaf it makes the leaf's value known, the
 -- whole is in order.
 use Rattle.std.proofs.Common.{◌≡◌, ℕ, List, [], ◌∷◌, ◌++◌, length, map, flat_map, Bool, true, false, refl, sym, ap, ◌∙◌, inl, inr, ◌⊎◌, ⊎_elim, subst, append_assoc, append-nil}
-use Rattle.std.specs.Prelude.{slice_get, Option, Some, None}
+use Rattle.std.specs.Prelude.{slice_get, Option, Some, None, unwrap_or}
 use Rattle.std.specs.List.{AllByRecursion}
 use Rattle.fir_base.specs.Lists.{In, EachIn}
 use Rattle.fir_base.proofs.Each.{each_more}
@@ -16,6 +16,8 @@ use Rattle.fir_net.specs.declared.leaf.Leaf.{Leaf}
 use Rattle.fir_net.specs.declared.net.FlatNet.{FlatNet}
 use Rattle.fir_net_names.specs.declared.name_table.NameTable.{NameTable}
 use Rattle.fir_net.specs.declared.node.Node.{Node}
+use Rattle.fir_net.specs.declared.array.ArrayRead.{ArrayRead}
+use Rattle.fir_net.specs.working.Arrays.{words_of}
 use Rattle.fir_net.specs.working.Dependence.{Reads, IsOf, support_of}
 use Rattle.ver_ast.specs.Processes.{Process, assigning, target, process_reads}
 use Rattle.ver_ast.specs.Valid.{ReadsBefore}
@@ -24,7 +26,7 @@ use Rattle.ver_build.specs.declared.places.Places.{Places}
 use Rattle.ver_build.specs.working.Held.{own_held}
 use Rattle.ver_build.specs.declared.right_sides.Inner.{Inner}
 use Rattle.fir_net_names.specs.working.LeafNamed.{name_at}
-use Rattle.ver_build.specs.working.Places.{held_of, node_at, place_value, placed, source_name}
+use Rattle.ver_build.specs.working.Places.{held_of, node_at, place_value, placed, read_width, source_name}
 use Rattle.ver_build.specs.working.Built.{inner_assign, node_inners, read_inners}
 use Rattle.ver_build.proofs.Premises.{Premises, all_by_number}
 use Rattle.ver_build.proofs.TextOrder.{Within}
@@ -33,7 +35,9 @@ use Rattle.ver_build.proofs.OperandNames.{fit_known}
 use Rattle.ver_build.proofs.NodeNets.{IsLiteral, IsEmpty, IsNetted, node_view, given_inners, no_inners, empty_inners, netted_inners}
 use Rattle.ver_build.proofs.ReadsStand.{leaf_read}
 use Rattle.ver_build.proofs.Fitting.{node_reads}
-use Rattle.ver_build.proofs.NoArrays.{no_reading}
+use Rattle.ver_build.proofs.ReadingNets.{IsNothingRead, IsRead, IsReadNetted, nothing_read, other_read, own_reading, reading_is, reading_own, reading_view}
+use Rattle.ver_build.proofs.ArraySides.{reading_reads}
+use Rattle.ver_build.proofs.LeafKinds.{is_reading}
 
 -- the process of an inner net
 abbrev pub inner_process : Inner → Process
@@ -61,7 +65,7 @@ known_first known (q ∷ qs) more reads go =
     still (r ∷ rs) h = (each_more (process_reads r) known (target q ∷ known) (λ x m. inr m) h.0, still rs h.1)
 
 -- inner nets that read in turn, with what is behind them
-in_turn : (known : List (List ℕ)) (xs : List Inner) (more : List Process) → ReadsInTurn known xs
+pub in_turn : (known : List (List ℕ)) (xs : List Inner) (more : List Process) → ReadsInTurn known xs
     → ((after : List (List ℕ)) → Within known after → ((i : Inner) → In xs i → In after i.name) → ReadsBefore after more)
     → ReadsBefore known (map inner_process xs ++ more)
 in_turn known [] more turn go = go known (λ x m. m) (λ i m. absurd m)
@@ -80,22 +84,72 @@ own_known known signed w (Some name) h = (h name refl, tt)
 module _ (net : FlatNet) (t : NameTable) (p : Places) (order : List Read) (is : Premises net t p order) where
   role_known : (known : List (List ℕ)) (k : ℕ) (l : Leaf) (r : Role) → slice_get net.leaves k ≡ Some l → l.role ≡ r
       → (has_own r ≡ true → (name : List ℕ) → name_at t.leaves k ≡ Some name → In known name)
+      → (is_reading r ≡ true → IsKnown known (place_value (placed p.leaves p.nodes p.readings (name_at t.leaves k) k l.signed l.width r)))
       → ((w : Read) → Reads net (read.Leaf k) w → IsKnown known (held_of p w))
       → IsKnown known (place_value (placed p.leaves p.nodes p.readings (name_at t.leaves k) k l.signed l.width r))
-  role_known known k l role.Input at e own below = own_known known l.signed l.width (name_at t.leaves k) (own refl)
-  role_known known k l (role.Register r) at e own below = own_known known l.signed l.width (name_at t.leaves k) (own refl)
-  role_known known k l (role.Output r) at e own below =
+  role_known known k l role.Input at e own has below = own_known known l.signed l.width (name_at t.leaves k) (own refl)
+  role_known known k l (role.Register r) at e own has below = own_known known l.signed l.width (name_at t.leaves k) (own refl)
+  role_known known k l (role.Output r) at e own has below =
       fit_known known (held_of p r).signed l.width (held_of p r).source (below r (leaf_read net k l (role.Output r) 0 r at e refl))
-  role_known known k l (role.Wire r) at e own below =
+  role_known known k l (role.Wire r) at e own has below =
       fit_known known (held_of p r).signed l.width (held_of p r).source (below r (leaf_read net k l (role.Wire r) 0 r at e refl))
-  role_known known k l (role.Reading r) at e own below = absurd (no_reading net is.whole is.writable.no_arrays k l r at e)
-  role_known known k l _ at e own below = tt
+  role_known known k l (role.Reading r) at e own has below = has refl
+  role_known known k l _ at e own has below = tt
 
   -- where what a leaf hangs on is known, and its own name, its value is known
   pub leaf_known : (known : List (List ℕ)) (k : ℕ) (l : Leaf) → slice_get net.leaves k ≡ Some l
       → (has_own l.role ≡ true → (name : List ℕ) → name_at t.leaves k ≡ Some name → In known name)
+      → (is_reading l.role ≡ true → IsKnown known (held_of p (read.Leaf k)))
       → ((w : Read) → Reads net (read.Leaf k) w → IsKnown known (held_of p w)) → IsKnown known (held_of p (read.Leaf k))
-  leaf_known known k l at own below = rw (is.places.leaves.each k l at) (role_known known k l l.role at refl own below)
+  leaf_known known k l at own has below =
+      rw (is.places.leaves.each k l at)
+      (role_known known k l l.role at refl own (λ e. subst (λ x. IsKnown known (place_value x)) (is.places.leaves.each k l at) (has e)) below)
+
+  -- what is read of an array is known behind its nets
+  reading_held : (k : ℕ) (l : Leaf) (r : ArrayRead) → slice_get net.leaves k ≡ Some l → l.role ≡ role.Reading r
+      → held_of p (read.Leaf k) ≡ (node_at p.readings k).held
+  reading_held k l r at same =
+      ap place_value (is.places.leaves.each k l at
+      ∙ ap (λ (d : Role). placed p.leaves p.nodes p.readings (name_at t.leaves k) k l.signed l.width d) same)
+
+  reading_of : (d : Role) → is_reading d ≡ true → (r : ArrayRead) × (d ≡ role.Reading r)
+  reading_of (role.Reading r) e = (r, refl)
+  reading_of _ e = absurd (cc)
+
+  reading_after : (known : List (List ℕ)) (k : ℕ) (l : Leaf) (more : List Process) → slice_get net.leaves k ≡ Some l
+      → ((w : Read) → Reads net (read.Leaf k) w → IsKnown known (held_of p w))
+      → ((after : List (List ℕ)) → Within known after → (is_reading l.role ≡ true → IsKnown after (held_of p (read.Leaf k))) → ReadsBefore after more)
+      → ReadsBefore known (map inner_process (read_inners net t p (read.Leaf k)) ++ more)
+  reading_after known k l more at below go = by (is_reading l.role) refl
+    where
+      netted : (h : IsRead net p k) → ReadsBefore known (map inner_process (read_inners net t p (read.Leaf k)) ++ more)
+      netted h =
+          let r = h.read in
+          let is_at = below r.address (leaf_read net k h.leaf (role.Reading r) 0 r.address h.at h.reads refl) in
+          let is_under = below r.enable (leaf_read net k h.leaf (role.Reading r) 1 r.enable h.at h.reads refl) in
+          let own =
+          reading_own (unwrap_or (name_at t.arrays r.array) []) (words_of net.arrays r.array) h.leaf.width (read_width net r.address)
+          (held_of p r.address) (held_of p r.enable) (node_at p.readings k).helpers h.netted.name in
+          subst (λ (xs : List Inner). ReadsBefore known (map inner_process xs ++ more)) (sym (reading_is net t p k h))
+          (in_turn known (own_reading net t p k h) more
+          (reading_reads (read_width net r.address) (held_of p r.address) (held_of p r.enable) known is_at is_under
+          (unwrap_or (name_at t.arrays r.array) []) (words_of net.arrays r.array) h.leaf.width (node_at p.readings k).helpers h.netted.name)
+          (λ after f g. go after f (λ e.
+          subst (IsKnown after) (sym (reading_held k h.leaf r h.at h.reads ∙ h.netted.held)) (g _ own.1, tt))))
+
+      by : (b : Bool) → is_reading l.role ≡ b → ReadsBefore known (map inner_process (read_inners net t p (read.Leaf k)) ++ more)
+      by false e =
+          subst (λ (xs : List Inner). ReadsBefore known (map inner_process xs ++ more)) (sym (other_read net t p k l at e))
+          (go known (λ x m. m) (λ t. let bad : true ≡ false = sym t ∙ e in absurd (cc)))
+      by true e =
+          let r = reading_of l.role e in
+          ⊎_elim
+          (λ (n : IsNothingRead l.signed l.width (node_at p.readings k)).
+          subst (λ (xs : List Inner). ReadsBefore known (map inner_process xs ++ more)) (sym (nothing_read net t p k l r.0 at r.1 n))
+          (go known (λ x m. m) (λ t. subst (IsKnown known) (sym (reading_held k l r.0 at r.1 ∙ n.held)) tt)))
+          (λ (h : IsReadNetted net l.signed l.width r.0 (node_at p.readings k)).
+          netted (record { leaf = l; at = at; read = r.0; reads = r.1; netted = h }))
+          (reading_view net l.signed l.width r.0 (node_at p.readings k) (is.places.nodes.read.each k l r.0 at r.1))
 
   -- what a read hangs on has been passed
   before_is : (before : List Read) (r : Read) (rest : List Read) → order ≡ before ++ r ∷ rest → (w : Read) → Reads net r w
@@ -112,11 +166,12 @@ module _ (net : FlatNet) (t : NameTable) (p : Places) (order : List Read) (is : 
   -- what the leaves before give, and what comes at a leaf, from names that are known first
   module _ (sources : List (List ℕ)) (at_leaf : ℕ → List Process)
       (leaf_step : (known : List (List ℕ)) (k : ℕ) (l : Leaf) (more : List Process) → slice_get net.leaves k ≡ Some l → Within sources known
+      → (is_reading l.role ≡ true → IsKnown known (held_of p (read.Leaf k)))
       → ((w : Read) → Reads net (read.Leaf k) w → IsKnown known (held_of p w))
       → ((after : List (List ℕ)) → Within known after → IsKnown after (held_of p (read.Leaf k)) → ReadsBefore after more)
       → ReadsBefore known (at_leaf k ++ more)) where
     abbrev pub given_at : Read → List Process
-    given_at (read.Leaf k) = at_leaf k
+    given_at (read.Leaf k) = map inner_process (read_inners net t p (read.Leaf k)) ++ at_leaf k
     given_at (read.Node k) = map inner_process (read_inners net t p (read.Node k))
 
     -- the sources, and the nets of what has been passed
@@ -171,7 +226,12 @@ module _ (net : FlatNet) (t : NameTable) (p : Places) (order : List Read) (is : 
         → ((w : Read) → Reads net r w → IsKnown known (held_of p w))
         → ((after : List (List ℕ)) → Within known after → IsKnown after (held_of p r) → ReadsBefore after more)
         → ReadsBefore known (given_at r ++ more)
-    entry_after known (read.Leaf k) more of start below go = let l = there net.leaves k of in leaf_step known k l.0 more l.1 start below go
+    entry_after known (read.Leaf k) more of start below go =
+        let l = there net.leaves k of in
+        rw (append_assoc (map inner_process (read_inners net t p (read.Leaf k))) (at_leaf k) more)
+        (reading_after known k l.0 (at_leaf k ++ more) l.1 below
+        (λ after f has. leaf_step after k l.0 more l.1 (λ x m. f x (start x m)) has (λ w reads. more_held known after (held_of p w) f (below w reads))
+        (λ last g h. go last (λ x m. g x (f x m)) h)))
     entry_after known (read.Node k) more of start below go =
         let n = there net.nodes k of in
         rw n.1 (node_after known k n.0 more n.1 below go)

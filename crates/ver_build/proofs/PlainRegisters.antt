@@ -1,5 +1,5 @@
 -- The registers of the tree without an asynchronous block are the words without a reset.
-use Rattle.std.proofs.Common.{◌≡◌, ℕ, List, Bool, true, false, not, ap, ◌∙◌, ⊎_elim, subst, None}
+use Rattle.std.proofs.Common.{◌≡◌, ℕ, List, Bool, true, false, not, map, ap, ◌∙◌, ⊎_elim, subst, None}
 use Rattle.std.specs.Option.{is_some}
 use Rattle.fir_base.specs.Lists.{In}
 use Rattle.fir_base.specs.Words.{is_among}
@@ -8,6 +8,7 @@ use Rattle.fir_net.specs.declared.leaf.Role.{Role}
 use Rattle.fir_net.specs.declared.leaf.Role.TheVariants as role
 use Rattle.fir_net.specs.declared.net.FlatNet.{FlatNet}
 use Rattle.fir_net_names.specs.declared.name_table.NameTable.{NameTable}
+use Rattle.ver_ast.specs.declared.tree.Resetting.{Resetting}
 use Rattle.ver_ast.specs.Nets.{SizedNet, plain_regs, regs, reset_targets}
 use Rattle.ver_ast.proofs.Chosen.{choose, in_or_not}
 use Rattle.ver_build.specs.declared.places.Places.{Places}
@@ -17,8 +18,8 @@ use Rattle.ver_build.proofs.Parts.{in_parts}
 use Rattle.ver_build.proofs.LeafKinds.{is_reset, picked}
 use Rattle.ver_build.proofs.Picked.{picked_apart}
 use Rattle.ver_build.proofs.InnerNames.{not_true}
-use Rattle.ver_build.proofs.Nets.{blocks_are}
-use Rattle.ver_build.proofs.Driven.{targets_reset, reset_targets_are}
+use Rattle.ver_build.proofs.Nets.{resets_are}
+use Rattle.ver_build.proofs.Driven.{reset_targets_are}
 use Rattle.ver_build.proofs.Words.{IsWord}
 use Rattle.ver_build.proofs.Blocks.{registered}
 
@@ -33,7 +34,7 @@ plain_no_reset _ e h = absurd (cc)
 
 module _ (net : FlatNet) (t : NameTable) (p : Places) (order : List Read) (is : Premises net t p order) where
   pub reset_targets_of : reset_targets (in_parts net t p order) ≡ picked is_reset (ordered_names net t) (ordered_leaves net)
-  reset_targets_of = ap targets_reset (blocks_are net t p order) ∙ reset_targets_are net t p order is.whole is.table
+  reset_targets_of = ap (map (λ (b : Resetting). b.target)) (resets_are net t p order) ∙ reset_targets_are net t p order is.whole is.table is.pipes
 
   pub plain_in : (k : ℕ) (w : IsWord net t k) → w.own.reset ≡ None → In (plain_regs (in_parts net t p order)) (w.name, w.leaf.width)
   plain_in k w none =

@@ -1,6 +1,6 @@
 -- What a tree is built from: a whole net that can be written, an order of it, a table of its names, and where its values are.
 -- A leaf has a name where it is a port or a register that has bits.
-use Rattle.std.proofs.Common.{◌≡◌, ℕ, ◌≤◌, List, true, false, not, ◌&&◌, nat_eq, Option, Some, None, arith}
+use Rattle.std.proofs.Common.{◌≡◌, ℕ, ◌≤◌, List, true, false, not, ◌&&◌, nat_eq, Option, Some, None, refl, arith}
 use Rattle.std.proofs.lemmas.Bool.{eqb-true, eqb-false, cond_both}
 use Rattle.std.specs.Prelude.{slice_get}
 use Rattle.std.specs.List.{AllByRecursion}
@@ -9,12 +9,14 @@ use Rattle.fir_base.proofs.Each.{all_from}
 use Rattle.fir_base.proofs.Elements.{number_of}
 use Rattle.fir_net.specs.declared.reads.Read.{Read}
 use Rattle.fir_net.specs.declared.leaf.Role.{Role}
+use Rattle.fir_net.specs.declared.leaf.Role.TheVariants as role
 use Rattle.fir_net.specs.declared.leaf.Leaf.{Leaf}
 use Rattle.fir_net.specs.declared.net.FlatNet.{FlatNet}
 use Rattle.fir_net_names.specs.declared.name_table.NameTable.{NameTable}
-use Rattle.fir_net.specs.working.IsNet.{IsLeaf, IsNet}
+use Rattle.fir_net.specs.working.IsNet.{is_state, IsLeaf, IsNet}
 use Rattle.fir_net.specs.working.IsOrder.{IsOrder}
-use Rattle.fir_net.specs.working.IsWritable.{IsWritable, IsWritableRole}
+use Rattle.fir_net.specs.working.IsWritable.{HasNoPipes, IsWritable, IsWritableRole}
+use Rattle.fir_net.specs.working.Counted.{is_register}
 use Rattle.fir_net_names.specs.working.IsTable.{IsTable}
 use Rattle.fir_net.specs.working.Laws.{NodesHaveTheirValues, NodesHaveTheirTypes, OrderedHasOne}
 use Rattle.fir_net_names.specs.working.TableNames.{table_names}
@@ -22,7 +24,7 @@ use Rattle.ver_words.specs.Names.{IsName}
 use Rattle.ver_ast.specs.working.Laws.{ValidHasOneRest}
 use Rattle.ver_build.specs.declared.places.Places.{Places}
 use Rattle.ver_build.specs.working.Places.{IsPlaces}
-use Rattle.ver_build.proofs.LeafKinds.{has_name, is_wire}
+use Rattle.ver_build.proofs.LeafKinds.{has_name, is_pipe, is_wire}
 
 -- the laws of nets and trees that are used
 pub record AreLaws : Type 0 where
@@ -35,12 +37,29 @@ pub record Premises (net : FlatNet) (t : NameTable) (p : Places) (order : List R
   pub laws : AreLaws
   pub whole : IsNet net
   pub writable : IsWritable net
+  pub pipes : HasNoPipes net
   pub ordered : IsOrder net order
   pub table : IsTable net t
   pub places : IsPlaces net t order p
   pub once : Distinct (table_names t)
   pub spelled : AllByRecursion IsName (table_names t)
   pub circuit : IsName t.circuit
+
+-- no leaf is a pipe, so a word of the state is a register
+pub no_pipe : (net : FlatNet) → HasNoPipes net → (k : ℕ) (l : Leaf) → slice_get net.leaves k ≡ Some l → is_pipe l.role ≡ false
+no_pipe net pipes k l at = by l.role refl
+  where
+    by : (d : Role) → l.role ≡ d → is_pipe d ≡ false
+    by (role.Pipe p) e = absurd (pipes.none k l p at e)
+    by _ e = refl
+
+pub state_register : (r : Role) → is_pipe r ≡ false → is_state r ≡ true → is_register r ≡ true
+state_register (role.Register r) plain e = refl
+state_register _ plain e = absurd (cc)
+
+pub register_state : (r : Role) → is_register r ≡ true → is_state r ≡ true
+register_state (role.Register r) e = refl
+register_state _ e = absurd (cc)
 
 abbrev pub LeafNamed : Leaf → Option (List ℕ) → Type 0
 LeafNamed l None = has_name l ≡ false

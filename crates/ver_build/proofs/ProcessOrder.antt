@@ -1,5 +1,6 @@
--- The processes of the tree in an order: those of nodes and of registers with a reset along the order of the net, and then those of outputs.
-use Rattle.std.proofs.Common.{◌≡◌, ℕ, List, [], ◌∷◌, ◌++◌, map, flat_map, true, refl, sym, ap, ◌∙◌, inl, inr, ⊎_elim, subst, append_assoc, append-nil, Option, Some, None}
+-- The processes of the tree in an order: those of nodes and of registers with a reset along the order of the net, then the nets of writes, and then the
+-- outputs.
+use Rattle.std.proofs.Common.{◌≡◌, ℕ, List, [], ◌∷◌, ◌++◌, map, flat_map, true, false, refl, sym, ap, ◌∙◌, inl, inr, ⊎_elim, subst, append_assoc, Option, Some, None}
 use Rattle.std.specs.Prelude.{slice_get}
 use Rattle.std.proofs.lemmas.List.{map-append}
 use Rattle.fir_base.specs.Lists.{In, EachIn}
@@ -13,7 +14,7 @@ use Rattle.fir_net.specs.declared.leaf.Role.TheVariants as role
 use Rattle.fir_net.specs.declared.leaf.Leaf.{Leaf}
 use Rattle.fir_net.specs.declared.net.FlatNet.{FlatNet}
 use Rattle.fir_net.specs.working.Counted.{is_register}
-use Rattle.fir_net.specs.working.Dependence.{IsOf, Reads}
+use Rattle.fir_net.specs.working.Dependence.{Reads}
 use Rattle.fir_net_names.specs.declared.name_table.NameTable.{NameTable}
 use Rattle.fir_net_names.specs.working.LeafNamed.{name_at}
 use Rattle.ver_ast.specs.Nets.{SizedNet, input_nets, names_of, plain_regs}
@@ -22,11 +23,12 @@ use Rattle.ver_ast.specs.Valid.{ReadsBefore}
 use Rattle.ver_build.specs.declared.held.Source.{Source}
 use Rattle.ver_build.specs.declared.places.Places.{Places}
 use Rattle.ver_build.specs.working.Places.{bit_net, held_of, source_name}
+use Rattle.ver_build.specs.working.ArrayBlocks.{write_inners}
 use Rattle.ver_build.specs.working.Blocks.{own_net, reset_net}
 use Rattle.ver_build.proofs.Premises.{Premises}
 use Rattle.ver_build.proofs.OrderedLeaves.{ordered_names, ordered_leaves, ordered_picked}
 use Rattle.ver_build.proofs.Parts.{in_parts, output_assigns}
-use Rattle.ver_build.proofs.LeafKinds.{is_input, picked_names}
+use Rattle.ver_build.proofs.LeafKinds.{is_input, is_reading, picked_names}
 use Rattle.ver_build.proofs.Nets.{inputs_sized}
 use Rattle.ver_build.proofs.Standing.{IsKnown}
 use Rattle.ver_build.proofs.OperandNames.{atom_known}
@@ -35,8 +37,8 @@ use Rattle.ver_build.proofs.ResetNames.{IsBit, HasNet, bit_source, reset_view}
 use Rattle.ver_build.proofs.ReadsStand.{word_reads}
 use Rattle.ver_build.proofs.TextOrder.{Within}
 use Rattle.ver_build.proofs.PlainRegisters.{plain_in}
-use Rattle.ver_build.proofs.Placed.{has_own, inner_process, more_held, known_first, leaf_known, given_at, in_order}
-use Rattle.ver_build.proofs.TextReads.{outputs_known}
+use Rattle.ver_build.proofs.Placed.{has_own, inner_process, more_held, leaf_known, given_at, in_order}
+use Rattle.ver_build.proofs.TextReads.{writes_after}
 use Rattle.ver_build.proofs.ShownWords.{word_shown, role_shown, leaf_shown, word_resetting}
 
 -- the net of one bit that a value is all of is known where the value is
@@ -81,7 +83,8 @@ module _ (net : FlatNet) (t : NameTable) (p : Places) (order : List Read) (is : 
   -- the leaf of a word is known where its own name is
   word_known : (known : List (List ℕ)) (k : ℕ) (w : IsWord net t k) → In known w.name → Below known k → IsKnown known (held_of p (read.Leaf k))
   word_known known k w m below =
-      leaf_known net t p order is known k w.leaf w.at (λ kind name named. let same : w.name ≡ name = let n = w.named in cc in subst (In known) same m) below
+      leaf_known net t p order is known k w.leaf w.at (λ kind name named. let same : w.name ≡ name = let n = w.named in cc in subst (In known) same m)
+      (λ e. let bad : false ≡ true = sym (ap is_reading w.register) ∙ e in absurd (cc)) below
 
   below_more : (known after : List (List ℕ)) (k : ℕ) → Within known after → Below known k → Below after k
   below_more known after k f below = λ w reads. more_held known after (held_of p w) f (below w reads)
@@ -121,10 +124,10 @@ module _ (net : FlatNet) (t : NameTable) (p : Places) (order : List Read) (is : 
 
   -- a leaf that is no register
   other_known : (known : List (List ℕ)) (k : ℕ) (l : Leaf) → slice_get net.leaves k ≡ Some l → (is_register l.role ≡ true → ⊥) → Within first_names known
-      → Below known k → IsKnown known (held_of p (read.Leaf k))
-  other_known known k l at none start below =
+      → (is_reading l.role ≡ true → IsKnown known (held_of p (read.Leaf k))) → Below known k → IsKnown known (held_of p (read.Leaf k))
+  other_known known k l at none start has below =
       leaf_known net t p order is known k l at
-      (λ kind name named. start name (input_first k l name at (input_or_else l.role kind none) named)) below
+      (λ kind name named. start name (input_first k l name at (input_or_else l.role kind none) named)) has below
 
   word_step : (known : List (List ℕ)) (k : ℕ) → In net.state k → (w : IsWord net t k) → (reset : Option Reset) → w.own.reset ≡ reset → (more : List Process)
       → Within first_names known → Below known k → Then known k more
@@ -135,32 +138,33 @@ module _ (net : FlatNet) (t : NameTable) (p : Places) (order : List Read) (is : 
       (reset_step known k m w r has more below go (name_at p.resets k) refl)
 
   role_step : (known : List (List ℕ)) (k : ℕ) (l : Leaf) (d : Role) (n : Option (List ℕ)) (more : List Process) → slice_get net.leaves k ≡ Some l
-      → l.role ≡ d → name_at t.leaves k ≡ n → Within first_names known → Below known k → Then known k more
+      → l.role ≡ d → name_at t.leaves k ≡ n → Within first_names known → (is_reading l.role ≡ true → IsKnown known (held_of p (read.Leaf k)))
+      → Below known k → Then known k more
       → ReadsBefore known (role_shown t p k d l.width n ++ more)
-  role_step known k l (role.Register d) (Some name) more at e named start below go =
+  role_step known k l (role.Register d) (Some name) more at e named start has below go =
       word_step known k (named_word net t is.whole is.table k l name at (ap is_register e) named) (leaf_word net t is.whole is.table k l d name at e named)
       d.reset refl more start below go
-  role_step known k l (role.Register d) None more at e named start below go =
-      go known (λ x m. m) (leaf_known net t p order is known k l at (λ kind name other. let no : None ≡ Some name = sym named ∙ other in absurd (cc)) below)
-  role_step known k l d n more at e named start below go =
-      go known (λ x m. m) (other_known known k l at (λ h. let no : is_register d ≡ true = ap is_register (sym e) ∙ h in cc) start below)
+  role_step known k l (role.Register d) None more at e named start has below go =
+      go known (λ x m. m) (leaf_known net t p order is known k l at (λ kind name other. let no : None ≡ Some name = sym named ∙ other in absurd (cc)) has below)
+  role_step known k l d n more at e named start has below go =
+      go known (λ x m. m) (other_known known k l at (λ h. let no : is_register d ≡ true = ap is_register (sym e) ∙ h in cc) start has below)
 
   pub leaf_step : (known : List (List ℕ)) (k : ℕ) (l : Leaf) (more : List Process) → slice_get net.leaves k ≡ Some l → Within first_names known
-      → Below known k → Then known k more → ReadsBefore known (leaf_shown net t p k ++ more)
-  leaf_step known k l more at start below go =
-      rw at (role_step known k l l.role (name_at t.leaves k) more at refl refl start below go)
+      → (is_reading l.role ≡ true → IsKnown known (held_of p (read.Leaf k))) → Below known k → Then known k more
+      → ReadsBefore known (leaf_shown net t p k ++ more)
+  leaf_step known k l more at start has below go =
+      rw at (role_step known k l l.role (name_at t.leaves k) more at refl refl start has below go)
 
   abbrev pub given : Read → List Process
   given = given_at net t p order is first_names (leaf_shown net t p) leaf_step
 
-  abbrev pub process_order : List Process
-  process_order = flat_map given order ++ map assigning (output_assigns net t p order)
+  -- the nets of writes, and then the outputs
+  abbrev pub ends : List Process
+  ends = map inner_process (write_inners net p) ++ map assigning (output_assigns net t p order)
 
-  behind_known : (known : List (List ℕ)) → Within first_names known → ((r : Read) → IsOf net r → IsKnown known (held_of p r))
-      → ReadsBefore known (map assigning (output_assigns net t p order))
-  behind_known known start all =
-      subst (ReadsBefore known) (append-nil (map assigning (output_assigns net t p order)))
-      (known_first known (map assigning (output_assigns net t p order)) [] (outputs_known net t p order is known all) (λ after f. tt))
+  abbrev pub process_order : List Process
+  process_order = flat_map given order ++ ends
 
   pub processes_ordered : ReadsBefore first_names process_order
-  processes_ordered = in_order net t p order is first_names (leaf_shown net t p) leaf_step (map assigning (output_assigns net t p order)) behind_known
+  processes_ordered =
+      in_order net t p order is first_names (leaf_shown net t p) leaf_step ends (λ known start all. writes_after net t p order is known all)

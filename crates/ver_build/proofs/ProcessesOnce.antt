@@ -21,7 +21,7 @@ use Rattle.ver_ast.specs.Valid.{IsOrder}
 use Rattle.ver_build.specs.declared.places.Places.{Places}
 use Rattle.ver_build.specs.declared.right_sides.Inner.{Inner}
 use Rattle.ver_build.specs.working.Blocks.{own_net}
-use Rattle.ver_build.specs.working.Built.{inners, order_inners, read_inners, reset_inners}
+use Rattle.ver_build.specs.working.Built.{inners, late_inners, order_inners, read_inners, reset_inners}
 use Rattle.ver_build.proofs.Lists.{flat_mapped}
 use Rattle.ver_build.proofs.Premises.{Premises}
 use Rattle.ver_build.proofs.OrderedLeaves.{ordered_all, ordered_names, ordered_leaves, ordered_once, ordered_picked}
@@ -36,9 +36,9 @@ use Rattle.ver_build.proofs.Sizes.{names_once, no_inner}
 use Rattle.ver_build.proofs.DistinctParts.{AreApart, parts_distinct, part_distinct, parts_apart}
 use Rattle.ver_build.proofs.Placed.{inner_process}
 use Rattle.ver_build.proofs.ShownWords.{HasShown, leaf_shown, word_resetting, given_is, shown_view}
-use Rattle.ver_build.proofs.ProcessOrder.{process_order, processes_ordered}
+use Rattle.ver_build.proofs.ProcessOrder.{ends, process_order, processes_ordered}
 use Rattle.ver_build.proofs.AllProcesses.{come, word_net, word_net_is, each, only}
-use Rattle.ver_build.proofs.NoArrays.{late_are}
+use Rattle.ver_build.specs.working.ArrayBlocks.{write_inners}
 
 register_no_output : (r : Role) → is_register r ≡ true → is_output r ≡ true → ⊥
 register_no_output (role.Register r) a b = cc
@@ -49,8 +49,8 @@ module _ (net : FlatNet) (t : NameTable) (p : Places) (order : List Read) (is : 
   abbrev come_names : Read → List (List ℕ)
   come_names r = map target (come net t p order is r)
 
-  abbrev node_names : Read → List (List ℕ)
-  node_names r = map inner_name (read_inners net t p r)
+  abbrev read_names : Read → List (List ℕ)
+  read_names r = map inner_name (read_inners net t p r)
 
   abbrev net_names : ℕ → List (List ℕ)
   net_names k = map inner_name (word_net net t p order is k)
@@ -58,24 +58,60 @@ module _ (net : FlatNet) (t : NameTable) (p : Places) (order : List Read) (is : 
   own_names : (xs : List Inner) → map target (map inner_process xs) ≡ map inner_name xs
   own_names xs = map-map target inner_process xs
 
-  -- those of all nodes, and of all resets
-  nodes_are : map inner_name (order_inners net t p order) ≡ flat_map node_names order
-  nodes_are = flat_mapped inner_name (read_inners net t p) node_names (λ r. refl) order
+  -- those of all nets of the order, of resets and of writes
+  abbrev firsts : List (List ℕ)
+  firsts = map inner_name (order_inners net t p order)
+
+  abbrev seconds : List (List ℕ)
+  seconds = map inner_name (reset_inners net p)
+
+  abbrev thirds : List (List ℕ)
+  thirds = map inner_name (write_inners net p)
+
+  firsts_are : map inner_name (order_inners net t p order) ≡ flat_map read_names order
+  firsts_are = flat_mapped inner_name (read_inners net t p) read_names (λ r. refl) order
 
   resets_are : map inner_name (reset_inners net p) ≡ flat_map net_names net.state
   resets_are = flat_mapped inner_name (word_net net t p order is) net_names (λ k. refl) net.state
 
-  inners_once : Distinct (map inner_name (order_inners net t p order) ++ map inner_name (reset_inners net p))
-  inners_once =
-      subst Distinct (ap (λ (xs : List Inner). map inner_name (order_inners net t p order ++ xs)) (late_are net is.whole is.writable.no_arrays p)
-      ∙ map-append inner_name (order_inners net t p order) (reset_inners net p))
-      (distinct_right (ordered_all net t) (map inner_name (inners net t p order)) (names_once net t p order is))
+  all_are : map inner_name (inners net t p order) ≡ firsts ++ (seconds ++ thirds)
+  all_are =
+      map-append inner_name (order_inners net t p order) (late_inners net p)
+      ∙ ap (λ (ns : List (List ℕ)). firsts ++ ns) (map-append inner_name (reset_inners net p) (write_inners net p))
 
-  nodes_once : Distinct (flat_map node_names order)
-  nodes_once = subst Distinct nodes_are (distinct_left (map inner_name (order_inners net t p order)) (map inner_name (reset_inners net p)) inners_once)
+  all_once : Distinct (firsts ++ (seconds ++ thirds))
+  all_once = subst Distinct all_are (distinct_right (ordered_all net t) (map inner_name (inners net t p order)) (names_once net t p order is))
+
+  late_once : Distinct (seconds ++ thirds)
+  late_once = distinct_right firsts (seconds ++ thirds) all_once
+
+  reads_once : Distinct (flat_map read_names order)
+  reads_once = subst Distinct firsts_are (distinct_left firsts (seconds ++ thirds) all_once)
 
   resets_once : Distinct (flat_map net_names net.state)
-  resets_once = subst Distinct resets_are (distinct_right (map inner_name (order_inners net t p order)) (map inner_name (reset_inners net p)) inners_once)
+  resets_once = subst Distinct resets_are (distinct_left seconds thirds late_once)
+
+  writes_once : Distinct thirds
+  writes_once = distinct_right seconds thirds late_once
+
+  -- a name of an inner net
+  in_firsts : (r : Read) (x : List ℕ) → In order r → In (read_names r) x → In firsts x
+  in_firsts r x there_is m = subst (λ (ns : List (List ℕ)). In ns x) (sym firsts_are) (in_flat_map read_names order r x there_is m)
+
+  in_seconds : (k : ℕ) (x : List ℕ) → In net.state k → In (net_names k) x → In seconds x
+  in_seconds k x m n = subst (λ (ns : List (List ℕ)). In ns x) (sym resets_are) (in_flat_map net_names net.state k x m n)
+
+  among_inners : (x : List ℕ) → In (firsts ++ (seconds ++ thirds)) x → In (map inner_name (inners net t p order)) x
+  among_inners x m = subst (λ (ns : List (List ℕ)). In ns x) (sym all_are) m
+
+  first_among : (x : List ℕ) → In firsts x → In (map inner_name (inners net t p order)) x
+  first_among x m = among_inners x (in_left firsts (seconds ++ thirds) x m)
+
+  second_among : (x : List ℕ) → In seconds x → In (map inner_name (inners net t p order)) x
+  second_among x m = among_inners x (in_right firsts (seconds ++ thirds) x (in_left seconds thirds x m))
+
+  third_among : (x : List ℕ) → In thirds x → In (map inner_name (inners net t p order)) x
+  third_among x m = among_inners x (in_right firsts (seconds ++ thirds) x (in_right seconds thirds x m))
 
   -- a name at a word: of the net of its reset, or its own
   record IsWordName (k : ℕ) (x : List ℕ) : Type 0 where
@@ -83,8 +119,13 @@ module _ (net : FlatNet) (t : NameTable) (p : Places) (order : List Read) (is : 
     word : IsWord net t k
     side : In (net_names k) x ⊎ (word.name ≡ x)
 
-  leaf_name : (k : ℕ) (x : List ℕ) → In order (read.Leaf k) → In (come_names (read.Leaf k)) x → IsWordName k x
-  leaf_name k x there_is m =
+  -- a name that comes at a read: of its nets, or at its word
+  data ComesAt (r : Read) (x : List ℕ) : Type 0 where
+    at_nets : In (read_names r) x → ComesAt r x
+    at_word : (k : ℕ) → r ≡ read.Leaf k → IsWordName k x → ComesAt r x
+
+  shown_name : (k : ℕ) (x : List ℕ) → In order (read.Leaf k) → In (map target (leaf_shown net t p k)) x → IsWordName k x
+  shown_name k x there_is m =
       let place = number_of order (read.Leaf k) there_is in
       let l = there net.leaves k (is.ordered.only place.0 (read.Leaf k) place.1) in
       ⊎_elim
@@ -107,42 +148,33 @@ module _ (net : FlatNet) (t : NameTable) (p : Places) (order : List Read) (is : 
       })
       (shown_view net t p is.whole is.table k l.0 l.1)
 
-  node_name : (k : ℕ) (x : List ℕ) → In (come_names (read.Node k)) x → In (node_names (read.Node k)) x
-  node_name k x m = subst (λ (ns : List (List ℕ)). In ns x) (own_names (read_inners net t p (read.Node k))) m
+  leaf_names : (k : ℕ) → come_names (read.Leaf k) ≡ read_names (read.Leaf k) ++ map target (leaf_shown net t p k)
+  leaf_names k =
+      map-append target (map inner_process (read_inners net t p (read.Leaf k))) (leaf_shown net t p k)
+      ∙ ap (λ (ns : List (List ℕ)). ns ++ map target (leaf_shown net t p k)) (own_names (read_inners net t p (read.Leaf k)))
 
-  -- names of nodes, of the nets of resets, and of registers have none in common
-  among_nodes : (k : ℕ) (x : List ℕ) → In order (read.Node k) → In (node_names (read.Node k)) x → In (map inner_name (order_inners net t p order)) x
-  among_nodes k x there_is m =
-      subst (λ (ns : List (List ℕ)). In ns x) (sym nodes_are) (in_flat_map node_names order (read.Node k) x there_is m)
-
-  among_resets : (k : ℕ) (x : List ℕ) → In net.state k → In (net_names k) x → In (map inner_name (reset_inners net p)) x
-  among_resets k x m n = subst (λ (ns : List (List ℕ)). In ns x) (sym resets_are) (in_flat_map net_names net.state k x m n)
-
-  among_inners : (x : List ℕ) → In (map inner_name (order_inners net t p order)) x ⊎ In (map inner_name (reset_inners net p)) x
-      → In (map inner_name (inners net t p order)) x
-  among_inners x m =
-      subst (λ (ns : List (List ℕ)). In ns x) (sym (ap (λ (xs : List Inner). map inner_name (order_inners net t p order ++ xs)) (late_are net is.whole is.writable.no_arrays p)
-      ∙ map-append inner_name (order_inners net t p order) (reset_inners net p)))
-      (⊎_elim
-      (λ (a : In (map inner_name (order_inners net t p order)) x). in_left (map inner_name (order_inners net t p order)) (map inner_name (reset_inners net p)) x a)
-      (λ (b : In (map inner_name (reset_inners net p)) x). in_right (map inner_name (order_inners net t p order)) (map inner_name (reset_inners net p)) x b)
-      m)
+  comes_at : (r : Read) (x : List ℕ) → In order r → In (come_names r) x → ComesAt r x
+  comes_at (read.Node k) x there_is m = at_nets (subst (λ (ns : List (List ℕ)). In ns x) (own_names (read_inners net t p (read.Node k))) m)
+  comes_at (read.Leaf k) x there_is m =
+      ⊎_elim
+      (λ (a : In (read_names (read.Leaf k)) x). at_nets a)
+      (λ (b : In (map target (leaf_shown net t p k)) x). at_word k refl (shown_name k x there_is b))
+      (in_either (read_names (read.Leaf k)) (map target (leaf_shown net t p k)) x (subst (λ (ns : List (List ℕ)). In ns x) (leaf_names k) m))
 
   word_picked : (k : ℕ) (w : IsWord net t k) → In (picked is_register (ordered_names net t) (ordered_leaves net)) w.name
   word_picked k w = ordered_picked net t is.whole is.table is_register k w.leaf w.name w.at (ap is_register w.register) w.named
 
-  no_register : (k : ℕ) (w : IsWord net t k) (x : List ℕ) → w.name ≡ x
-      → In (map inner_name (order_inners net t p order)) x ⊎ In (map inner_name (reset_inners net p)) x → ⊥
+  -- a register is no inner net
+  no_register : (k : ℕ) (w : IsWord net t k) (x : List ℕ) → w.name ≡ x → In (map inner_name (inners net t p order)) x → ⊥
   no_register k w x e m =
-      no_inner net t p order is is_register x (subst (In (picked is_register (ordered_names net t) (ordered_leaves net))) e (word_picked k w)) (among_inners x m)
+      no_inner net t p order is is_register x (subst (In (picked is_register (ordered_names net t) (ordered_leaves net))) e (word_picked k w)) m
 
-  node_no_word : (k m : ℕ) (x : List ℕ) → In order (read.Node k) → In (node_names (read.Node k)) x → IsWordName m x → ⊥
-  node_no_word k m x there_is n h =
+  net_no_word : (r : Read) (m : ℕ) (x : List ℕ) → In order r → In (read_names r) x → IsWordName m x → ⊥
+  net_no_word r m x there_is n h =
       ⊎_elim
       (λ (o : In (net_names m) x).
-      apart (map inner_name (order_inners net t p order)) (map inner_name (reset_inners net p)) inners_once x (among_nodes k x there_is n)
-      (among_resets m x h.among o))
-      (λ (e : h.word.name ≡ x). no_register m h.word x e (inl (among_nodes k x there_is n)))
+      apart firsts (seconds ++ thirds) all_once x (in_firsts r x there_is n) (in_left seconds thirds x (in_seconds m x h.among o)))
+      (λ (e : h.word.name ≡ x). no_register m h.word x e (first_among x (in_firsts r x there_is n)))
       h.side
 
   same_net : (k m : ℕ) (x : List ℕ) → In net.state k → In net.state m → In (net_names k) x → In (net_names m) x → k ≡ m
@@ -159,29 +191,28 @@ module _ (net : FlatNet) (t : NameTable) (p : Places) (order : List Read) (is : 
       (λ (u : In (net_names k) x).
       ⊎_elim
       (λ (v : In (net_names m) x). same_net k m x g.among h.among u v)
-      (λ (e : h.word.name ≡ x). absurd (no_register m h.word x e (inr (among_resets k x g.among u))))
+      (λ (e : h.word.name ≡ x). absurd (no_register m h.word x e (second_among x (in_seconds k x g.among u))))
       h.side)
       (λ (d : g.word.name ≡ x).
       ⊎_elim
-      (λ (v : In (net_names m) x). absurd (no_register k g.word x d (inr (among_resets m x h.among v))))
+      (λ (v : In (net_names m) x). absurd (no_register k g.word x d (second_among x (in_seconds m x h.among v))))
       (λ (e : h.word.name ≡ x). same_place t.leaves (distinct_left (somes t.leaves) (somes t.arrays) is.once) k m x (g.word.named ∙ ap Some d) (h.word.named ∙ ap Some e))
       h.side)
       g.side
 
   places_apart : AreApart come_names order
-  places_apart = record { each = each_apart }
+  places_apart = record {
+    each = λ i j r s x at other a b.
+        each_apart i j r s x at other (comes_at r x (get_in order i r at) a) (comes_at s x (get_in order j s other) b);
+  }
     where
-      each_apart : (i j : ℕ) (r s : Read) (x : List ℕ) → slice_get order i ≡ Some r → slice_get order j ≡ Some s → In (come_names r) x → In (come_names s) x
-          → i ≡ j
-      each_apart i j (read.Node k) (read.Node m) x at other a b =
-          (parts_apart node_names order nodes_once).each i j (read.Node k) (read.Node m) x at other (node_name k x a) (node_name m x b)
-      each_apart i j (read.Node k) (read.Leaf m) x at other a b =
-          absurd (node_no_word k m x (get_in order i (read.Node k) at) (node_name k x a) (leaf_name m x (get_in order j (read.Leaf m) other) b))
-      each_apart i j (read.Leaf k) (read.Node m) x at other a b =
-          absurd (node_no_word m k x (get_in order j (read.Node m) other) (node_name m x b) (leaf_name k x (get_in order i (read.Leaf k) at) a))
-      each_apart i j (read.Leaf k) (read.Leaf m) x at other a b =
-          let same = same_word k m x (leaf_name k x (get_in order i (read.Leaf k) at) a) (leaf_name m x (get_in order j (read.Leaf m) other) b) in
-          is.ordered.once i j (read.Leaf k) at (other ∙ ap (λ n. Some (read.Leaf n)) (sym same))
+      each_apart : (i j : ℕ) (r s : Read) (x : List ℕ) → slice_get order i ≡ Some r → slice_get order j ≡ Some s → ComesAt r x → ComesAt s x → i ≡ j
+      each_apart i j r s x at other (at_nets a) (at_nets b) = (parts_apart read_names order reads_once).each i j r s x at other a b
+      each_apart i j r s x at other (at_nets a) (at_word m e h) = absurd (net_no_word r m x (get_in order i r at) a h)
+      each_apart i j r s x at other (at_word k d g) (at_nets b) = absurd (net_no_word s k x (get_in order j s other) b g)
+      each_apart i j r s x at other (at_word k d g) (at_word m e h) =
+          let same = same_word k m x g h in
+          is.ordered.once i j r at (other ∙ ap Some (e ∙ ap read.Leaf (sym same) ∙ sym d))
 
   -- what comes at one place
   word_once : (k : ℕ) → In net.state k → (w : IsWord net t k) → (r : Reset) → w.own.reset ≡ Some r → (n : Option (List ℕ)) → name_at p.resets k ≡ n
@@ -192,17 +223,15 @@ module _ (net : FlatNet) (t : NameTable) (p : Places) (order : List Read) (is : 
         ⊎_elim
         (λ (e : w.name ≡ own).
         no_register k w own e
-        (inr (among_resets k own m
+        (second_among own (in_seconds k own m
         (subst (λ (xs : List Inner). In (map inner_name xs) own) (sym (word_net_is net t p order is k w r has ∙ ap (own_net p (Some r)) named)) (inl refl)))))
         (λ (o : ⊥). o)
         x,
     (λ x. x, tt),
   )
 
-  come_once : (r : Read) → In order r → Distinct (come_names r)
-  come_once (read.Node k) m =
-      subst Distinct (sym (own_names (read_inners net t p (read.Node k)))) (part_distinct node_names order nodes_once (read.Node k) m)
-  come_once (read.Leaf k) m =
+  shown_once : (k : ℕ) → In order (read.Leaf k) → Distinct (map target (leaf_shown net t p k))
+  shown_once k m =
       let place = number_of order (read.Leaf k) m in
       let l = there net.leaves k (is.ordered.only place.0 (read.Leaf k) place.1) in
       ⊎_elim
@@ -212,32 +241,64 @@ module _ (net : FlatNet) (t : NameTable) (p : Places) (order : List Read) (is : 
       (word_once k h.among h.word h.reset h.has (name_at p.resets k) refl))
       (shown_view net t p is.whole is.table k l.0 l.1)
 
+  come_once : (r : Read) → In order r → Distinct (come_names r)
+  come_once (read.Node k) m =
+      subst Distinct (sym (own_names (read_inners net t p (read.Node k)))) (part_distinct read_names order reads_once (read.Node k) m)
+  come_once (read.Leaf k) m =
+      subst Distinct (sym (leaf_names k))
+      (distinct_joined (read_names (read.Leaf k)) (map target (leaf_shown net t p k)) (part_distinct read_names order reads_once (read.Leaf k) m) (shown_once k m)
+      (λ x a b. net_no_word (read.Leaf k) k x m a (shown_name k x m b)))
+
   outs_are : map target (map assigning (output_assigns net t p order)) ≡ picked is_output (ordered_names net t) (ordered_leaves net)
   outs_are = map-map target assigning (output_assigns net t p order) ∙ output_targets_are net t p order
 
-  -- outputs are targets of no other process
-  no_output : (r : Read) (x : List ℕ) → In order r → In (come_names r) x → In (picked is_output (ordered_names net t) (ordered_leaves net)) x → ⊥
-  no_output (read.Node k) x m n o = no_inner net t p order is is_output x o (among_inners x (inl (among_nodes k x m (node_name k x n))))
-  no_output (read.Leaf k) x m n o =
-      let h = leaf_name k x m n in
+  -- what comes at a read is none of a write and no output
+  no_output : (r : Read) (x : List ℕ) → In order r → ComesAt r x → In (picked is_output (ordered_names net t) (ordered_leaves net)) x → ⊥
+  no_output r x m (at_nets n) o = no_inner net t p order is is_output x o (first_among x (in_firsts r x m n))
+  no_output r x m (at_word k d h) o =
       ⊎_elim
-      (λ (u : In (net_names k) x). no_inner net t p order is is_output x o (among_inners x (inr (among_resets k x h.among u))))
+      (λ (u : In (net_names k) x). no_inner net t p order is is_output x o (second_among x (in_seconds k x h.among u)))
       (λ (e : h.word.name ≡ x).
       picked_apart is_register is_output register_no_output (ordered_names net t) (ordered_leaves net) (ordered_once net t is.whole is.table) x
       (subst (In (picked is_register (ordered_names net t) (ordered_leaves net))) e (word_picked k h.word)) o)
       h.side
 
+  no_write : (r : Read) (x : List ℕ) → In order r → ComesAt r x → In thirds x → ⊥
+  no_write r x m (at_nets n) o = apart firsts (seconds ++ thirds) all_once x (in_firsts r x m n) (in_right seconds thirds x o)
+  no_write r x m (at_word k d h) o =
+      ⊎_elim
+      (λ (u : In (net_names k) x). apart seconds thirds late_once x (in_seconds k x h.among u) o)
+      (λ (e : h.word.name ≡ x). no_register k h.word x e (third_among x o))
+      h.side
+
+  ends_are : map target (ends net t p order is) ≡ thirds ++ picked is_output (ordered_names net t) (ordered_leaves net)
+  ends_are =
+      map-append target (map inner_process (write_inners net p)) (map assigning (output_assigns net t p order))
+      ∙ ap (λ (ns : List (List ℕ)). ns ++ map target (map assigning (output_assigns net t p order))) (own_names (write_inners net p))
+      ∙ ap (λ (ns : List (List ℕ)). thirds ++ ns) outs_are
+
+  ends_once : Distinct (thirds ++ picked is_output (ordered_names net t) (ordered_leaves net))
+  ends_once =
+      distinct_joined thirds (picked is_output (ordered_names net t) (ordered_leaves net)) writes_once
+      (picked_once is_output (ordered_names net t) (ordered_leaves net) (ordered_once net t is.whole is.table))
+      (λ x m o. no_inner net t p order is is_output x o (third_among x m))
+
   once : Distinct (process_targets (process_order net t p order is))
   once =
+      let outs = picked is_output (ordered_names net t) (ordered_leaves net) in
       subst Distinct
-      (sym (map-append target (flat_map (come net t p order is) order) (map assigning (output_assigns net t p order))
-      ∙ ap (λ (ns : List (List ℕ)). ns ++ map target (map assigning (output_assigns net t p order)))
+      (sym (map-append target (flat_map (come net t p order is) order) (ends net t p order is)
+      ∙ ap (λ (ns : List (List ℕ)). ns ++ map target (ends net t p order is))
       (flat_mapped target (come net t p order is) come_names (λ r. refl) order)
-      ∙ ap (λ (ns : List (List ℕ)). flat_map come_names order ++ ns) outs_are))
-      (distinct_joined (flat_map come_names order) (picked is_output (ordered_names net t) (ordered_leaves net))
-      (parts_distinct come_names order places_apart come_once)
-      (picked_once is_output (ordered_names net t) (ordered_leaves net) (ordered_once net t is.whole is.table))
-      (λ x m o. let r = in_flat_map_from come_names order x m in no_output r.0 x r.1 r.2 o))
+      ∙ ap (λ (ns : List (List ℕ)). flat_map come_names order ++ ns) ends_are))
+      (distinct_joined (flat_map come_names order) (thirds ++ outs) (parts_distinct come_names order places_apart come_once) ends_once
+      (λ x m o.
+      let r = in_flat_map_from come_names order x m in
+      let c = comes_at r.0 x r.1 r.2 in
+      ⊎_elim
+      (λ (w : In thirds x). no_write r.0 x r.1 c w)
+      (λ (y : In outs x). no_output r.0 x r.1 c y)
+      (in_either thirds outs x o)))
 
   pub is_order : IsOrder (in_parts net t p order) (process_order net t p order is)
   is_order = record { each = each net t p order is; only = only net t p order is; once = once; after = processes_ordered net t p order is }

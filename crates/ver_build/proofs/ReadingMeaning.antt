@@ -1,8 +1,8 @@
 -- What the nets of a read mean where each has the value of its right side: the last one has the word at the address, or zero where the address is past the end or
 -- nothing is read; and every right side has a value.
-use Rattle.std.proofs.Common.{◌≡◌, ℕ, ◌^◌, ◌<◌, ◌≤◌, List, [], ◌∷◌, length, Bool, true, false, ◌&&◌, ◌==◌, nat_le, nat_lt, if◌then◌else◌, refl, sym, ap, ◌∙◌, inl, inr, ◌⊎◌, ⊎_elim, subst, arith, Option, Some, None, unwrap_or}
+use Rattle.std.proofs.Common.{◌≡◌, ℕ, ◌^◌, ◌<◌, ◌≤◌, List, [], ◌∷◌, length, Bool, true, false, ◌&&◌, ◌==◌, nat_lt, if◌then◌else◌, refl, sym, ap, ◌∙◌, inl, inr, ◌⊎◌, ⊎_elim, subst, arith, Option, Some, unwrap_or}
 use Rattle.std.specs.Prelude.{slice_get, IsSome, bit_and}
-use Rattle.std.proofs.lemmas.Bool.{lt-ltb, ltb-true}
+use Rattle.std.proofs.lemmas.Bool.{leb-true, lt-ltb, ltb-true}
 use Rattle.fir_base.specs.Lists.{In}
 use Rattle.fir_base.specs.Ticks.{Env}
 use Rattle.fir_bits.specs.Operators.{flag}
@@ -12,7 +12,7 @@ use Rattle.ver_ast.specs.AtomValues.{atom_value}
 use Rattle.ver_ast.specs.SideValues.{rhs_value}
 use Rattle.ver_build.specs.declared.held.Held.{Held}
 use Rattle.ver_build.specs.declared.right_sides.Inner.{Inner}
-use Rattle.ver_build.specs.working.ArrayTexts.{always_within, direct_inners, guarded_inners, reading_inners}
+use Rattle.ver_build.specs.working.ArrayTexts.{always_within, direct_inners, guarded_inners, reading_count, reading_inners}
 use Rattle.ver_build.specs.working.Operands.{atom_at}
 
 -- a word that there is, where a number is within and something is read
@@ -122,3 +122,22 @@ module _ (ns : List SizedNet) (store : Store) (f : Env) (array : List ℕ) (word
       where
         valued : (i j : Inner) → j ≡ i → IsSome (rhs_value ns store f j.width j.rhs) → IsSome (rhs_value ns store f i.width i.rhs)
         valued i j here s = subst (λ (x : Inner). IsSome (rhs_value ns store f x.width x.rhs)) here s
+
+  pub reading_means : (helpers : List (List ℕ)) (name : List ℕ) → length helpers ≡ reading_count w words
+      → MeetsInners ns store f (reading_inners array words u w at under helpers name)
+      → (f name ≡ read_or_zero word words e a) × AreValued ns store f (reading_inners array words u w at under helpers name)
+  reading_means helpers name long meets = by (always_within w words) refl helpers long meets
+    where
+      by : (b : Bool) → always_within w words ≡ b → (hs : List (List ℕ)) → length hs ≡ (if b then 1 else 4)
+          → MeetsInners ns store f (if b then direct_inners array u w at under hs name else guarded_inners array words u w at under hs name)
+          → (f name ≡ read_or_zero word words e a)
+          × AreValued ns store f (if b then direct_inners array u w at under hs name else guarded_inners array words u w at under hs name)
+      by true s [] l m = absurd (omega arith)
+      by true s (h ∷ []) l m = let fit = leb-true (2 ^ w) words s in (direct_means name h fit m, direct_valued name h fit)
+      by true s (h ∷ g ∷ hs) l m = absurd (omega arith)
+      by false s [] l m = absurd (omega arith)
+      by false s (h ∷ []) l m = absurd (omega arith)
+      by false s (h ∷ g ∷ []) l m = absurd (omega arith)
+      by false s (h ∷ g ∷ k ∷ []) l m = absurd (omega arith)
+      by false s (h ∷ g ∷ k ∷ v ∷ []) l m = (guarded_means name h g k v m, guarded_valued name h g k v m)
+      by false s (h ∷ g ∷ k ∷ v ∷ x ∷ hs) l m = absurd (omega arith)

@@ -21,15 +21,17 @@ use Rattle.fir_net.specs.working.Values.{type_of_leaf}
 use Rattle.fir_net.specs.declared.leaf.ResetKind.TheVariants.{Asynchronous}
 use Rattle.fir_net.specs.working.Dependence.{IsOf, Reads, kind_reads, reset_reads, role_reads}
 use Rattle.fir_net.specs.working.IsWritable.{ActsAtOnce, IsWritableRole}
-use Rattle.fir_net.specs.working.IsNet.{node_type, read_type, CanRead, IsNode, IsLeaf, IsRole, CanDrive, CanBeReset, IsReset}
+use Rattle.fir_net.specs.working.IsNet.{node_type, read_type, CanRead, IsNode, IsAddressed, IsLeaf, IsRole, CanDrive, CanBeReset, IsReset}
 use Rattle.fir_net_names.specs.working.LeafNamed.{name_at}
 use Rattle.fir_net.specs.working.Settled.{is_clock}
 use Rattle.ver_ast.specs.Nets.{SizedNet, width_among}
+use Rattle.ver_ast.specs.SoundSides.{HasWidth}
 use Rattle.ver_build.specs.declared.places.Places.{Places}
+use Rattle.ver_build.specs.working.Operands.{atom_at}
 use Rattle.ver_build.specs.working.Held.{whole_net, own_held, held_literal, fit}
-use Rattle.ver_build.specs.working.Places.{place_value, placed, held_of, node_at}
+use Rattle.ver_build.specs.working.Places.{place_value, placed, held_of, node_at, read_width}
 use Rattle.ver_build.proofs.AlongOrder.{along_order}
-use Rattle.ver_build.proofs.NoArrays.{no_reading}
+use Rattle.ver_build.proofs.ReadingNets.{IsNothingRead, IsRead, IsReadNetted, reading_view}
 use Rattle.ver_build.proofs.Premises.{Premises, LeafNamed}
 use Rattle.ver_build.proofs.TableLeaves.{leaf_named}
 use Rattle.ver_build.proofs.OrderedLeaves.{ordered_at}
@@ -40,7 +42,8 @@ use Rattle.ver_build.proofs.Standing.{StandsAs, AllStand}
 use Rattle.ver_build.proofs.Fitted.{whole_stands, fit_stands}
 use Rattle.ver_build.proofs.NodeNets.{IsLiteral, IsEmpty, IsNetted, node_view}
 use Rattle.ver_build.proofs.Words.{IsWord}
-use Rattle.ver_build.proofs.Sizes.{LeafSized, unnamed_bits, leaf_sizes, own_declared}
+use Rattle.ver_build.proofs.Sizes.{LeafSized, unnamed_bits, leaf_sizes, own_declared, reading_declared}
+use Rattle.ver_build.proofs.OperandAtoms.{atom_fits}
 
 -- the leaf with a number hangs on what its role reads
 pub leaf_read : (net : FlatNet) (k : ℕ) (l : Leaf) (r : Role) (n : ℕ) (w : Read) → slice_get net.leaves k ≡ Some l → l.role ≡ r
@@ -135,7 +138,15 @@ module _ (net : FlatNet) (t : NameTable) (p : Places) (order : List Read) (is : 
       fit_stands_as l r (leaf_at k l at).narrow driven (below r (leaf_read net k l (role.Output r) 0 r at e refl))
   leaf_stands k l (role.Wire r) at e plain driven below =
       fit_stands_as l r (leaf_at k l at).narrow driven (below r (leaf_read net k l (role.Wire r) 0 r at e refl))
-  leaf_stands k l (role.Reading r) at e plain driven below = absurd (no_reading net is.whole is.writable.no_arrays k l r at e)
+  leaf_stands k l (role.Reading r) at e plain driven below =
+      ⊎_elim
+      (λ (n : IsNothingRead l.signed l.width (node_at p.readings k)).
+      rw n.held (subst (λ (w : ℕ). StandsAs ns (own_held l.signed w None) (type_of_leaf l)) n.none (none_stands ns (type_of_leaf l) n.none)))
+      (λ (h : IsReadNetted net l.signed l.width r (node_at p.readings k)).
+      rw h.held (net_stands ns h.name (type_of_leaf l) h.some (leaf_at k l at).narrow
+      (reading_declared net t p order is k (record { leaf = l; at = at; read = r; reads = e; netted = h }))))
+      (reading_view net l.signed l.width r (node_at p.readings k) (is.places.nodes.read.each k l r at e))
+  leaf_stands k l (role.Pipe q) at e plain driven below = absurd (is.pipes.none k l q at e)
   leaf_stands k l _ at e plain driven below = absurd (cc)
 
   literal_stands : (k : ℕ) (n : Node) → slice_get net.nodes k ≡ Some n → (l : IsLiteral n (node_at p.nodes k))
@@ -177,3 +188,13 @@ module _ (net : FlatNet) (t : NameTable) (p : Places) (order : List Read) (is : 
       → AllStand ns (map (held_of p) rs) (map (read_type net.leaves net.nodes) rs)
   reads_stand [] can = tt
   reads_stand (r ∷ rs) can = (read_stands r can.0, reads_stand rs can.1)
+
+  -- where an array is read, and under which bit
+  pub read_addressed : (k : ℕ) (h : IsRead net p k) → IsAddressed net.leaves net.nodes h.read.address h.read.enable
+  read_addressed k h = subst (IsRole net.leaves net.nodes h.leaf.signed h.leaf.width) h.reads (leaf_at k h.leaf h.at).driven
+
+  pub address_narrow : (r : Read) → CanRead net.leaves net.nodes r → read_width net r ≤ 128
+  address_narrow r can = let is_at = read_stands r can in subst (λ (w : ℕ). w ≤ 128) is_at.width is_at.stands.narrow
+
+  pub read_wide : (w : ℕ) (r : Read) → CanRead net.leaves net.nodes r → 1 ≤ w → w ≤ 128 → HasWidth (sizes net t p order) w (atom_at w (held_of p r))
+  read_wide w r can some narrow = atom_fits ns w (held_of p r) (read_stands r can).stands some narrow

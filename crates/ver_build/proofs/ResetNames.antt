@@ -27,7 +27,6 @@ use Rattle.ver_build.proofs.Premises.{Premises}
 use Rattle.ver_build.proofs.Words.{IsWord, word_at, net_is}
 use Rattle.ver_build.proofs.Nets.{inner_name}
 use Rattle.ver_build.proofs.NodeNets.{order_named}
-use Rattle.ver_build.specs.declared.right_sides.Inner.{Inner}
 use Rattle.fir_net.specs.declared.array.Array.{Array}
 use Rattle.fir_net.specs.declared.array.ArrayWrite.{ArrayWrite}
 use Rattle.fir_net.specs.declared.leaf.Role.{Role}
@@ -106,7 +105,7 @@ module _ (net : FlatNet) (t : NameTable) (p : Places) (order : List Read) (is : 
       (λ k. refl) net.state
       ∙ flat_same (λ (k : ℕ). map inner_name (at_number (leaf_net p) p.resets net.leaves k)) (λ (k : ℕ). with_some (name_at p.resets k) []) net.state
       (λ k m.
-      let w = word_at net t is.whole is.table k m in
+      let w = word_at net t is.whole is.table is.pipes k m in
       ap (map inner_name) (net_is net t p k w) ∙ one_named w.own.reset (name_at p.resets k) (needs_is k m w))
 
   -- the nets of what leaves read of arrays

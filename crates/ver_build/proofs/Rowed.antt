@@ -17,8 +17,7 @@ use Rattle.fir_net.specs.declared.node.Node.{Node}
 use Rattle.fir_net.specs.declared.net.FlatNet.{FlatNet}
 use Rattle.fir_net.specs.Paths.{base_name}
 use Rattle.fir_net.specs.Rows.{Row, row, Word, word, array_names, row_names, row_kinds, word_names, word_widths, PortKind}
-use Rattle.fir_net.specs.working.Counted.{is_register}
-use Rattle.fir_net.specs.working.IsNet.{is_port, IsLeaf, IsRole, IsNet}
+use Rattle.fir_net.specs.working.IsNet.{is_port, IsLeaf, IsRole, IsNet, is_state}
 use Rattle.fir_net.specs.working.Rows.{array_row, role_row, leaf_word, net_arrays, net_rows, net_words}
 use Rattle.fir_net.specs.working.Values.{leaf_width}
 use Rattle.fir_net_names.specs.declared.name_table.NameTable.{NameTable}
@@ -139,7 +138,7 @@ module _ (net : FlatNet) (whole : IsNet net) where
   word_is k m =
       let word = word_leaf net whole k m in
       let at : slice_get net.leaves k ≡ Some word.0 = word.1 in
-      let bits = (and_parts (is_register word.0.role) (not (nat_eq word.0.width 0)) word.2).1 in
+      let bits = (and_parts (is_state word.0.role) (not (nat_eq word.0.width 0)) word.2).1 in
       rw at (one_word (base_name word.0.path) word.0.width (some_bits word.0.width bits))
 
   words_are : (ks : List ℕ) → ((k : ℕ) → In ks k → In net.state k)
@@ -182,35 +181,17 @@ module _ (net : FlatNet) (whole : IsNet net) where
   arrays_based : array_names (net_arrays net) ≡ map (array_base net) net.array_order
   arrays_based = arrays_of net.array_order (λ k m. m)
 
--- the names that there are of numbers that all have one
-names_many : (f : ℕ → Option (List ℕ)) (ks : List ℕ) → ((k : ℕ) → In ks k → (n : List ℕ) × (f k ≡ Some n)) → length (somes (map f ks)) ≡ length ks
-names_many f [] h = refl
-names_many f (k ∷ ks) h = let n = h k (inl refl) in rw n.1 (ap suc (names_many f ks (λ j m. h j (inr m))))
-
--- the first of names that are taken one after the other
-named_first : (taken xs ys names others : List (List ℕ)) → length xs ≡ length names → AreNamed taken (xs ++ ys) (names ++ others) → AreNamed taken xs names
-named_first taken [] ys [] others e h = tt
-named_first taken [] ys (n ∷ names) others e h = absurd (cc)
-named_first taken (x ∷ xs) ys [] others e h = absurd (cc)
-named_first taken (x ∷ xs) ys (n ∷ names) others e h = (h.0, named_first (n ∷ taken) xs ys names others (omega (arith, e)) h.1)
-
--- the names of ports and then of words are those for the names of rows and then of words
+-- the names of ports and then of words and of arrays are those for the names of rows, words and arrays
 pub named_for_rows : (net : FlatNet) (t : NameTable) → IsNet net → IsTable net t
-    → AreNamed [] (row_names (net_rows net) ++ word_names (net_words net)) (somes (map (name_at t.leaves) (named_leaves net)))
+    → AreNamed [] (row_names (net_rows net) ++ word_names (net_words net) ++ array_names (net_arrays net))
+    (somes (map (name_at t.leaves) (named_leaves net)) ++ somes (map (name_at t.arrays) net.array_order))
 named_for_rows net t whole table =
-    let names = somes (map (name_at t.leaves) (named_leaves net)) in
-    let many : length (map (base_at net) (named_leaves net)) ≡ length names =
-    length-map (named_leaves net) (base_at net) ∙ sym (names_many (name_at t.leaves) (named_leaves net) table.has) in
-    subst (λ (bases : List (List ℕ)). AreNamed [] bases (somes (map (name_at t.leaves) (named_leaves net)))) (sym (rows_based net whole))
-    (named_first [] (map (base_at net) (named_leaves net)) (map (array_base net) net.array_order) names
-    (somes (map (name_at t.arrays) net.array_order)) many table.named)
-
--- and then those of arrays
-pub ordered_for_rows : (net : FlatNet) (t : NameTable) → IsNet net → IsTable net t
-    → AreNamed [] (row_names (net_rows net) ++ word_names (net_words net) ++ array_names (net_arrays net)) (ordered_all net t)
-unfolding ordered_names
-ordered_for_rows net t whole table =
     subst (λ (bases : List (List ℕ)). AreNamed [] bases (somes (map (name_at t.leaves) (named_leaves net)) ++ somes (map (name_at t.arrays) net.array_order)))
     (sym (ap (λ (ns : List (List ℕ)). ns ++ array_names (net_arrays net)) (rows_based net whole)
     ∙ ap (λ (ns : List (List ℕ)). map (base_at net) (named_leaves net) ++ ns) (arrays_based net whole)))
     table.named
+
+pub ordered_for_rows : (net : FlatNet) (t : NameTable) → IsNet net → IsTable net t
+    → AreNamed [] (row_names (net_rows net) ++ word_names (net_words net) ++ array_names (net_arrays net)) (ordered_all net t)
+unfolding ordered_names
+ordered_for_rows net t whole table = named_for_rows net t whole table

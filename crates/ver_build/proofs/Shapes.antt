@@ -1,6 +1,6 @@
 -- The tree of a net has its shape: the widths of the inputs and registers with bits in order, and as many clocks.
 -- A leaf that is numbered from the front has the width that stands in its place.
-use Rattle.std.proofs.Common.{◌≡◌, ℕ, ◌+◌, List, [], ◌∷◌, Bool, true, false, length, refl, sym, ap, ◌∙◌, arith, length-append}
+use Rattle.std.proofs.Common.{◌≡◌, ℕ, ◌+◌, List, [], ◌∷◌, ◌++◌, Bool, true, false, length, refl, sym, ap, ◌∙◌, arith, length-append}
 use Rattle.std.specs.Prelude.{map, Option, Some, None, nat_eq, if◌then◌else◌}
 use Rattle.std.proofs.Math.Numerals.{add-one}
 use Rattle.std.proofs.lemmas.List.{map-append}
@@ -10,14 +10,15 @@ use Rattle.fir_net.specs.declared.leaf.Role.TheVariants as role
 use Rattle.fir_net.specs.declared.leaf.Leaf.{Leaf}
 use Rattle.fir_net.specs.declared.net.FlatNet.{FlatNet}
 use Rattle.fir_net_names.specs.declared.name_table.NameTable.{NameTable}
+use Rattle.fir_net.specs.working.Arrays.{array_widths}
+use Rattle.fir_net.specs.working.IsWritable.{HasNoPipes}
 use Rattle.fir_net.specs.working.Values.{leaf_width}
 use Rattle.fir_net.specs.working.Settled.{with_bits, input_number, clock_number, output_number, numbers_by, shape as net_shape}
 use Rattle.fir_net.specs.working.IsNet.{is_port, IsRole, IsNet}
 use Rattle.fir_net_names.specs.working.IsTable.{IsTable}
-use Rattle.ver_ast.specs.Nets.{SizedNet, variables, variable_widths, input_nets, clocks, widths_of, shape as v_shape}
+use Rattle.ver_ast.specs.Nets.{SizedNet, Variable, variables, variable_widths, arrays, input_nets, clocks, widths_of, shape as v_shape}
 use Rattle.ver_build.specs.declared.places.Places.{Places}
 use Rattle.ver_build.proofs.Names.{NameList, Each, zipped}
-use Rattle.ver_build.proofs.NoArrays.{shape_words}
 use Rattle.ver_build.proofs.Premises.{Premises, BitsNamed, LeafNamed, RoleNamed, role_named, bits_named, Whole}
 use Rattle.ver_build.proofs.TableLeaves.{leaves_named, leaves_whole}
 use Rattle.ver_build.proofs.OrderedLeaves.{ordered_names, ordered_leaves, names_port, sizes_port, same_ports}
@@ -25,8 +26,9 @@ use Rattle.ver_build.proofs.WordLists.{word_sizes_listed}
 use Rattle.ver_build.proofs.Parts.{in_parts}
 use Rattle.fir_net.specs.working.Counted.{is_register}
 use Rattle.ver_build.proofs.LeafKinds.{is_wire, is_input, is_clock_input, is_output, name_if, sized_if, picked, picked_sized}
-use Rattle.ver_build.proofs.Nets.{inputs_sized, clocks_are, registers_sized, no_arrays}
-use Rattle.ver_build.proofs.StateWords.{words_wide}
+use Rattle.ver_build.proofs.Nets.{inputs_sized, clocks_are, registers_sized, arrays_are}
+use Rattle.ver_build.proofs.StateArrays.{array_words_wide}
+use Rattle.ver_build.proofs.StateWords.{widths_joined}
 use Rattle.ver_build.proofs.Choices.{if_equal}
 
 -- the number of a leaf with bits, where it is of a kind
@@ -136,10 +138,10 @@ module _ (net : FlatNet) where
       ) refl
 
 -- the widths of registers are those of the words of the state
-pub register_widths : (net : FlatNet) (t : NameTable) → IsNet net → IsTable net t
+pub register_widths : (net : FlatNet) (t : NameTable) → IsNet net → IsTable net t → HasNoPipes net
     → widths_of (picked_sized is_register (ordered_names net t) (ordered_leaves net)) ≡ map (leaf_width net.leaves) net.state
-register_widths net t whole table =
-    word_sizes_listed net t whole table (λ (s : SizedNet). s.1) (leaf_width net.leaves) (λ k l name at kind named. rw at refl)
+register_widths net t whole table pipes =
+    word_sizes_listed net t whole table pipes (λ (s : SizedNet). s.1) (leaf_width net.leaves) (λ k l name at kind named. rw at refl)
 
 pub built_shape : (net : FlatNet) (t : NameTable) (p : Places) (order : List Read) → Premises net t p order
     → v_shape (in_parts net t p order) ≡ net_shape net
@@ -148,11 +150,13 @@ built_shape net t p order is =
     ap widths_of
     (inputs_sized net t p order ∙ same_ports net t is.whole is.table (λ l n. sized_if (is_input l.role) l.width n) (sizes_port is_input input_port))
     ∙ widths_along is_input input_number input_is input_plain t.leaves net.leaves (leaves_named net is.whole t is.table) in
-    let state : variable_widths (variables (in_parts net t p order)) ≡ map (leaf_width net.leaves) net.state =
-    words_wide (in_parts net t p order) (no_arrays net t p order)
-    ∙ ap widths_of (registers_sized net t p order) ∙ register_widths net t is.whole is.table in
+    let state : variable_widths (variables (in_parts net t p order)) ≡ map (leaf_width net.leaves) net.state ++ array_widths net =
+    widths_joined (in_parts net t p order)
+    ∙ ap (λ (ws : List ℕ). ws ++ variable_widths (arrays (in_parts net t p order))) (ap widths_of (registers_sized net t p order) ∙ register_widths net t is.whole is.table is.pipes)
+    ∙ ap (λ (ks : List Variable). map (leaf_width net.leaves) net.state ++ variable_widths ks) (arrays_are net t p order is.whole is.table)
+    ∙ ap (λ (ws : List ℕ). map (leaf_width net.leaves) net.state ++ ws) (array_words_wide net t) in
     let count : length (clocks (in_parts net t p order)) ≡ length (numbers_by clock_number 0 net.leaves) =
     ap length
     (clocks_are net t p order ∙ same_ports net t is.whole is.table (λ l n. name_if (is_clock_input l.role) n) (names_port is_clock_input clock_port))
     ∙ clocks_along net t.leaves net.leaves 0 (leaves_whole net is.whole t is.table) in
-    rw (ins, shape_words net is.whole is.writable.no_arrays, state, count) refl
+    rw (ins, state, count) refl

@@ -10,6 +10,7 @@ use Rattle.fir_net.specs.declared.leaf.Leaf.{Leaf}
 use Rattle.fir_net.specs.declared.net.FlatNet.{FlatNet}
 use Rattle.fir_net.specs.working.Counted.{is_register}
 use Rattle.fir_net.specs.working.IsNet.{IsNet}
+use Rattle.fir_net.specs.working.IsWritable.{HasNoPipes}
 use Rattle.fir_net_names.specs.declared.name_table.NameTable.{NameTable}
 use Rattle.fir_net_names.specs.working.IsTable.{IsTable}
 use Rattle.fir_net_names.specs.working.LeafNamed.{name_at}
@@ -87,10 +88,10 @@ module _ (net : FlatNet) (t : NameTable) (p : Places) where
       (block_in net t p k m w block (subst (λ (bs : List AlwaysBlock). In bs block) (sym given) (inl refl))) (inl refl)
 
   module _ (whole : IsNet net) (table : IsTable net t) where
-    pub reset_of : (b : Resetting) → In (flat_map block_reset (word_blocks net t p)) b → IsReset b
-    reset_of b m =
+    pub reset_of : HasNoPipes net → (b : Resetting) → In (flat_map block_reset (word_blocks net t p)) b → IsReset b
+    reset_of pipes b m =
         let from = in_flat_map_from block_reset (word_blocks net t p) b m in
-        let o = block_of net t p whole table from.0 from.1 in
+        let o = block_of net t p whole table pipes from.0 from.1 in
         reset_on o.number o.among o.word o.word.own.reset refl b (in_flat_map block_reset (register_block net t p o.number o.word) from.0 b o.inside from.2)
 
     word_view : (k : ℕ) → In net.state k → (w : IsWord net t k) → (reset : Option Reset) → w.own.reset ≡ reset

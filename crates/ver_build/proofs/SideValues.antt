@@ -1,11 +1,10 @@
--- The values of right sides in a tree without arrays. Such a right side reads no word, so its value hangs on no store.
+-- The values of right sides that read no array: such a value hangs on no store.
 use Rattle.std.proofs.Common.{◌≡◌, ℕ, List, [], refl}
 use Rattle.std.specs.Prelude.{Option}
 use Rattle.fir_base.specs.Ticks.{Env}
 use Rattle.ver_ast.specs.declared.tree.Rhs.{Rhs}
 use Rattle.ver_ast.specs.declared.tree.Rhs.TheVariants as rhs
-use Rattle.ver_ast.specs.ItemNames.{rhs_arrays}
-use Rattle.ver_ast.specs.Nets.{SizedNet}
+use Rattle.ver_ast.specs.Nets.{SizedNet, Variable}
 use Rattle.ver_ast.specs.Stores.{Store}
 use Rattle.ver_ast.specs.SideValues.{rhs_value}
 use Rattle.ver_ast.specs.SoundSides.{IsSoundSide}
@@ -21,6 +20,12 @@ pub same_side : (sizes nets : List SizedNet) (store : Store) (env : Env) (w u : 
 same_side sizes nets store env w u (rhs.Word m a) sound = absurd sound.widths.1
 same_side sizes nets store env w u r sound = refl
 
-pub reads_no_array : (sizes : List SizedNet) (w : ℕ) (r : Rhs) → IsSoundSide sizes [] w r → rhs_arrays r ≡ []
-reads_no_array sizes w (rhs.Word m a) sound = absurd sound.widths.1
-reads_no_array sizes w r sound = refl
+-- it is sound beside any arrays
+pub sound_beside : (sizes : List SizedNet) (arrays : List Variable) (w : ℕ) (r : Rhs) → IsSoundSide sizes [] w r → IsSoundSide sizes arrays w r
+sound_beside sizes arrays w (rhs.Word m a) sound = absurd sound.widths.1
+sound_beside sizes arrays w (rhs.Atom a) sound = record { operands = sound.operands; widths = sound.widths }
+sound_beside sizes arrays w (rhs.Unary o a) sound = record { operands = sound.operands; widths = sound.widths }
+sound_beside sizes arrays w (rhs.Binary a o b) sound = record { operands = sound.operands; widths = sound.widths }
+sound_beside sizes arrays w (rhs.Signed a o b) sound = record { operands = sound.operands; widths = sound.widths }
+sound_beside sizes arrays w (rhs.SignedShift a b) sound = record { operands = sound.operands; widths = sound.widths }
+sound_beside sizes arrays w (rhs.Conditional c a b) sound = record { operands = sound.operands; widths = sound.widths }

@@ -9,9 +9,9 @@ use Rattle.fir_bits.specs.Values.{BitVector}
 use Rattle.fir_bits.specs.working.Operators.{type_of}
 use Rattle.fir_bits.specs.declared.types.NumTy.{NumTy}
 use Rattle.fir_bits.specs.declared.values.Num.{Num}
-use Rattle.ver_ast.specs.Nets.{SizedNet, width_among}
+use Rattle.ver_ast.specs.Nets.{SizedNet, Variable, width_among}
 use Rattle.ver_ast.specs.Names.{rhs_names}
-use Rattle.ver_build.proofs.SideValues.{side_value}
+use Rattle.ver_build.proofs.SideValues.{side_value, sound_beside}
 use Rattle.ver_ast.specs.SoundSides.{IsSoundSide}
 use Rattle.ver_build.specs.declared.held.Part.{Part}
 use Rattle.ver_build.specs.declared.held.Source.{Source}
@@ -89,6 +89,15 @@ pub record IsSoundInner (nets : List SizedNet) (i : Inner) : Type 0 where
   pub side : IsSoundSide nets [] i.width i.rhs
   pub some : 1 ≤ i.width
   pub narrow : i.width ≤ 128
+
+-- so beside these arrays
+pub record IsSoundAmong (nets : List SizedNet) (arrays : List Variable) (i : Inner) : Type 0 where
+  pub side : IsSoundSide nets arrays i.width i.rhs
+  pub some : 1 ≤ i.width
+  pub narrow : i.width ≤ 128
+
+pub sound_among : (nets : List SizedNet) (arrays : List Variable) (i : Inner) → IsSoundInner nets i → IsSoundAmong nets arrays i
+sound_among nets arrays i is = record { side = sound_beside nets arrays i.width i.rhs is.side; some = is.some; narrow = is.narrow }
 
 -- each right side reads what is known, and then its target is known
 abbrev pub ReadsInTurn : List (List ℕ) → List Inner → Type 0

@@ -9,8 +9,7 @@ use Rattle.fir_net.specs.declared.leaf.Role.{Role}
 use Rattle.fir_net.specs.declared.leaf.Role.TheVariants as role
 use Rattle.fir_net.specs.declared.leaf.Leaf.{Leaf}
 use Rattle.fir_net.specs.declared.net.FlatNet.{FlatNet}
-use Rattle.fir_net.specs.working.Counted.{is_register}
-use Rattle.fir_net.specs.working.IsNet.{is_port, is_word, IsLeaf, IsNet}
+use Rattle.fir_net.specs.working.IsNet.{is_port, is_state, is_word, IsLeaf, IsNet}
 use Rattle.fir_net.proofs.NumberedLeaves.{among}
 use Rattle.fir_net_names.specs.declared.name_table.NameTable.{NameTable}
 use Rattle.fir_net_names.specs.working.IsTable.{IsTable}
@@ -20,16 +19,17 @@ use Rattle.ver_build.proofs.Names.{Each, each_by_number, each_with}
 use Rattle.ver_build.proofs.LeafKinds.{is_wire, has_name}
 use Rattle.ver_build.proofs.Premises.{LeafNamed, Whole}
 
--- what has a name is a port or a register
-port_or_register : (r : Role) (z : Bool) → (not (is_wire r) && not z) ≡ true → ((is_port r && not z) ≡ true) ⊎ ((is_register r && not z) ≡ true)
-port_or_register role.Input z e = inl e
-port_or_register role.Clock z e = inl e
-port_or_register (role.Output r) z e = inl e
-port_or_register (role.Wire r) z e = absurd (cc)
-port_or_register (role.Register d) z e = inr e
-port_or_register (role.Reading d) z e = absurd (cc)
-port_or_register (role.ClockOutput c) z e = inl e
-port_or_register (role.ClockWire c) z e = absurd (cc)
+-- what has a name is a port, a register or a pipe
+port_or_state : (r : Role) (z : Bool) → (not (is_wire r) && not z) ≡ true → ((is_port r && not z) ≡ true) ⊎ ((is_state r && not z) ≡ true)
+port_or_state role.Input z e = inl e
+port_or_state role.Clock z e = inl e
+port_or_state (role.Output r) z e = inl e
+port_or_state (role.Wire r) z e = absurd (cc)
+port_or_state (role.Register d) z e = inr e
+port_or_state (role.Reading d) z e = absurd (cc)
+port_or_state (role.Pipe q) z e = inr e
+port_or_state (role.ClockOutput c) z e = inl e
+port_or_state (role.ClockWire c) z e = absurd (cc)
 
 port_no_wire : (r : Role) → is_port r ≡ true → not (is_wire r) ≡ true
 port_no_wire (role.Wire r) e = absurd (cc)
@@ -37,11 +37,11 @@ port_no_wire (role.Reading r) e = absurd (cc)
 port_no_wire (role.ClockWire c) e = absurd (cc)
 port_no_wire _ e = refl
 
-register_no_wire : (r : Role) → is_register r ≡ true → not (is_wire r) ≡ true
-register_no_wire (role.Wire r) e = absurd (cc)
-register_no_wire (role.Reading r) e = absurd (cc)
-register_no_wire (role.ClockWire c) e = absurd (cc)
-register_no_wire _ e = refl
+state_no_wire : (r : Role) → is_state r ≡ true → not (is_wire r) ≡ true
+state_no_wire (role.Wire r) e = absurd (cc)
+state_no_wire (role.Reading r) e = absurd (cc)
+state_no_wire (role.ClockWire c) e = absurd (cc)
+state_no_wire _ e = refl
 
 named_as : (l : Leaf) (b : Bool) (n : Option (List ℕ)) → has_name l ≡ b → (b ≡ true → (name : List ℕ) × (n ≡ Some name)) → (b ≡ false → n ≡ None) → LeafNamed l n
 named_as l true n e some none = let found = some refl in subst (LeafNamed l) (sym found.1) e
@@ -57,9 +57,9 @@ module _ (net : FlatNet) (whole : IsNet net) where
       (λ (e : is_word l ≡ true).
       let place = whole.state.all k l at e in
       in_right (named_ports 0 net.leaves) net.state k (get_in net.state place.0 k place.1))
-      (port_or_register l.role (nat_eq l.width 0) has)
+      (port_or_state l.role (nat_eq l.width 0) has)
 
-  -- the leaf of a word has bits and is a register
+  -- the leaf of a word has bits and is a register or a pipe
   pub word_leaf : (k : ℕ) → In net.state k → (l : Leaf) × (slice_get net.leaves k ≡ Some l) × (is_word l ≡ true)
   word_leaf k m = let place = number_of net.state k m in whole.state.only place.0 k place.1
 
@@ -76,9 +76,9 @@ module _ (net : FlatNet) (whole : IsNet net) where
       let word = word_leaf k s in
       let same : Some word.0 ≡ Some l = sym word.1 ∙ at in
       let one : word.0 ≡ l = cc in
-      let parts = and_parts (is_register word.0.role) (not (nat_eq word.0.width 0)) word.2 in
+      let parts = and_parts (is_state word.0.role) (not (nat_eq word.0.width 0)) word.2 in
       subst (λ (x : Leaf). has_name x ≡ true) one
-      (and_from (not (is_wire word.0.role)) (not (nat_eq word.0.width 0)) (register_no_wire word.0.role parts.0) parts.1))
+      (and_from (not (is_wire word.0.role)) (not (nat_eq word.0.width 0)) (state_no_wire word.0.role parts.0) parts.1))
       (in_either (named_ports 0 net.leaves) net.state k m)
 
   module _ (t : NameTable) (table : IsTable net t) where

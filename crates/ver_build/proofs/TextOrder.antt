@@ -1,10 +1,11 @@
--- Registers and wires stand before all assigns and blocks, so each of these names nets that are declared before it; those of clock outputs name ports.
-use Rattle.std.proofs.Common.{◌≡◌, ℕ, List, [], ◌∷◌, ◌++◌, sym, inl, inr, ⊎_elim, subst, append_assoc}
+-- Registers, arrays and wires stand before all assigns and blocks, so each of these names nets and arrays that are declared before it; those of clock outputs name ports.
+use Rattle.std.proofs.Common.{◌≡◌, ℕ, List, [], ◌∷◌, ◌++◌, inl, inr, ⊎_elim}
 use Rattle.std.specs.Prelude.{map}
 use Rattle.std.specs.List.{AllByRecursion}
 use Rattle.fir_base.specs.Lists.{In}
 use Rattle.fir_base.proofs.Each.{each_more}
 use Rattle.fir_base.proofs.Members.{in_left, in_right, in_either}
+use Rattle.ver_ast.specs.declared.tree.Array.{Array as TreeArray}
 use Rattle.ver_ast.specs.declared.tree.Net.{Net}
 use Rattle.ver_ast.specs.declared.tree.Assign.{Assign}
 use Rattle.ver_ast.specs.Nets.{AlwaysBlock, plain_block, resetting_block, writing_block}
@@ -40,41 +41,48 @@ blocks_declared known all (writing_block b ∷ bs) h a =
     (each_more (item_names (item.Writing b)) all known h a.0, blocks_declared known all bs h a.1)
 
 -- declarations, with the names that are known behind them
-nets_declared : (c : Net → Item)
-    → ((known : List (List ℕ)) (n : Net) (rest : List Item) → DeclaredBefore (n.name ∷ known) rest → DeclaredBefore known (c n ∷ rest))
-    → (known : List (List ℕ)) (ns : List Net) (rest : List Item)
-    → ((after : List (List ℕ)) → Within (known ++ map net_name ns) after → DeclaredBefore after rest) → DeclaredBefore known (map c ns ++ rest)
-nets_declared c step known [] rest go = go known (λ x m. ⊎_elim (λ (k : In known x). k) (λ (k : ⊥). absurd k) (in_either known [] x m))
-nets_declared c step known (n ∷ ns) rest go =
-    step known n (map c ns ++ rest) (nets_declared c step (n.name ∷ known) ns rest (λ after h. go after (λ x m. h x (moved x m))))
+all_declared : {A : Type 0} → (name : A → List ℕ) (c : A → Item)
+    → ((known : List (List ℕ)) (n : A) (rest : List Item) → DeclaredBefore (name n ∷ known) rest → DeclaredBefore known (c n ∷ rest))
+    → (known : List (List ℕ)) (ns : List A) (rest : List Item)
+    → ((after : List (List ℕ)) → Within (known ++ map name ns) after → DeclaredBefore after rest) → DeclaredBefore known (map c ns ++ rest)
+all_declared name c step known [] rest go = go known (λ x m. ⊎_elim (λ (k : In known x). k) (λ (k : ⊥). absurd k) (in_either known [] x m))
+all_declared name c step known (n ∷ ns) rest go =
+    step known n (map c ns ++ rest) (all_declared name c step (name n ∷ known) ns rest (λ after h. go after (λ x m. h x (moved x m))))
   where
-    moved : (x : List ℕ) → In (known ++ n.name ∷ map net_name ns) x → In (n.name ∷ (known ++ map net_name ns)) x
+    moved : (x : List ℕ) → In (known ++ name n ∷ map name ns) x → In (name n ∷ (known ++ map name ns)) x
     moved x m =
         ⊎_elim
-        (λ (k : In known x). inr (in_left known (map net_name ns) x k))
-        (λ (k : In (n.name ∷ map net_name ns) x). ⊎_elim (λ (e : n.name ≡ x). inl e)
-        (λ (o : In (map net_name ns) x). inr (in_right known (map net_name ns) x o)) k)
-        (in_either known (n.name ∷ map net_name ns) x m)
+        (λ (k : In known x). inr (in_left known (map name ns) x k))
+        (λ (k : In (name n ∷ map name ns) x). ⊎_elim (λ (e : name n ≡ x). inl e)
+        (λ (o : In (map name ns) x). inr (in_right known (map name ns) x o)) k)
+        (in_either known (name n ∷ map name ns) x m)
 
-pub items_declared : (known all : List (List ℕ)) (rs ws : List Net) (xs cs : List Assign) (bs : List AlwaysBlock)
-    → ((x : List ℕ) → In all x → In (known ++ (map net_name rs ++ map net_name ws)) x)
+-- what is within stays within with more behind both
+more_within : (xs ys zs : List (List ℕ)) → Within xs ys → Within (xs ++ zs) (ys ++ zs)
+more_within xs ys zs h x m =
+    ⊎_elim (λ (k : In xs x). in_left ys zs x (h x k)) (λ (k : In zs x). in_right ys zs x k) (in_either xs zs x m)
+
+abbrev pub tree_name : TreeArray → List ℕ
+tree_name a = a.name
+
+-- what is known behind registers, arrays and wires
+abbrev pub all_known : List (List ℕ) → List Net → List TreeArray → List Net → List (List ℕ)
+all_known known rs ks ws = ((known ++ map net_name rs) ++ map tree_name ks) ++ map net_name ws
+
+pub items_declared : (known all : List (List ℕ)) (rs : List Net) (ks : List TreeArray) (ws : List Net) (xs cs : List Assign) (bs : List AlwaysBlock)
+    → Within all (all_known known rs ks ws)
     → AllByRecursion (AssignAmong all) xs → AllByRecursion (AssignAmong known) cs → AllByRecursion (BlockAmong (known ++ all)) bs
-    → DeclaredBefore known (items rs [] ws xs cs bs)
-items_declared known all rs ws xs cs bs among assigned shown blocked =
-    nets_declared item.Reg (λ k n rest d. (tt, d)) known rs (map item.Wire ws ++ (map item.Assign xs ++ (map item.Assign cs ++ map block_item bs)))
-    (λ after h. nets_declared item.Wire (λ k n rest d. (tt, d)) after ws (map item.Assign xs ++ (map item.Assign cs ++ map block_item bs))
-    (λ last k. driven last (λ x m. k x (within after h x (among x m)))
-    (λ x m. k x (in_left after (map net_name ws) x (h x (in_left known (map net_name rs) x m))))))
+    → DeclaredBefore known (items rs ks ws xs cs bs)
+items_declared known all rs ks ws xs cs bs among assigned shown blocked =
+    all_declared net_name item.Reg (λ k n rest d. (tt, d)) known rs
+    (map item.Array ks ++ (map item.Wire ws ++ (map item.Assign xs ++ (map item.Assign cs ++ map block_item bs))))
+    (λ after h. all_declared tree_name item.Array (λ k n rest d. (tt, d)) after ks
+    (map item.Wire ws ++ (map item.Assign xs ++ (map item.Assign cs ++ map block_item bs)))
+    (λ next g. all_declared net_name item.Wire (λ k n rest d. (tt, d)) next ws (map item.Assign xs ++ (map item.Assign cs ++ map block_item bs))
+    (λ last k. driven last
+    (λ x m. k x (more_within ((known ++ map net_name rs) ++ map tree_name ks) next (map net_name ws) (λ y n. g y (more_within (known ++ map net_name rs) after (map tree_name ks) h y n)) x (among x m)))
+    (λ x m. k x (in_left next (map net_name ws) x (g x (in_left after (map tree_name ks) x (h x (in_left known (map net_name rs) x m)))))))))
   where
-    within : (after : List (List ℕ)) → Within (known ++ map net_name rs) after
-        → Within (known ++ (map net_name rs ++ map net_name ws)) (after ++ map net_name ws)
-    within after h x m =
-        ⊎_elim
-        (λ (k : In (known ++ map net_name rs) x). in_left after (map net_name ws) x (h x k))
-        (λ (k : In (map net_name ws) x). in_right after (map net_name ws) x k)
-        (in_either (known ++ map net_name rs) (map net_name ws) x
-        (subst (λ (ns : List (List ℕ)). In ns x) (sym (append_assoc known (map net_name rs) (map net_name ws))) m))
-
     driven : (last : List (List ℕ)) → Within all last → Within known last
         → DeclaredBefore last (map item.Assign xs ++ (map item.Assign cs ++ map block_item bs))
     driven last h k =

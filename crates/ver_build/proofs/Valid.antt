@@ -10,17 +10,17 @@ use Rattle.fir_base.specs.declared.direction.Direction.TheVariants.{Input, Outpu
 use Rattle.fir_base.specs.Lists.{In, Distinct}
 use Rattle.fir_base.proofs.Each.{all_at, all_from, all_joined, all_mapped, each_more}
 use Rattle.fir_base.proofs.Members.{in_map, in_map_from, in_left, in_right, in_either, in_flat_map_from}
-use Rattle.fir_base.proofs.Twins.{distinct_right, distinct_joined}
+use Rattle.fir_base.proofs.Twins.{apart, distinct_right, distinct_joined}
 use Rattle.fir_net.specs.declared.reads.Read.{Read}
 use Rattle.fir_net.specs.declared.leaf.Role.{Role}
 use Rattle.fir_net.specs.declared.leaf.Role.TheVariants as role
 use Rattle.fir_net.specs.declared.leaf.Leaf.{Leaf}
 use Rattle.fir_net.specs.declared.net.FlatNet.{FlatNet}
 use Rattle.fir_net_names.specs.declared.name_table.NameTable.{NameTable}
-use Rattle.fir_net_names.specs.working.LeafNamed.{somes}
+use Rattle.fir_net_names.specs.working.LeafNamed.{name_at, somes}
 use Rattle.ver_ast.specs.declared.tree.Port.{Port}
 use Rattle.ver_ast.specs.declared.tree.Assign.{Assign}
-use Rattle.ver_ast.specs.Nets.{SizedNet, Variable, variable_names, AlwaysBlock, port_net, input_clock, output_clock, output_clocks, input_nets, output_nets, clocks, wires, regs, port_nets, nets, arrays, assigns, clock_assigns, targets, blocks, block_targets, names_of}
+use Rattle.ver_ast.specs.Nets.{SizedNet, Variable, variable_names, AlwaysBlock, port_net, input_clock, output_clock, output_clocks, input_nets, output_nets, clocks, wires, regs, port_nets, nets, arrays, assigns, clock_assigns, targets, blocks, block_target, block_targets, names_of}
 use Rattle.ver_ast.specs.SoundSides.{IsSoundSide}
 use Rattle.ver_ast.specs.ItemNames.{item_names, rhs_arrays}
 use Rattle.ver_build.specs.Arranged.{block_item}
@@ -33,22 +33,29 @@ use Rattle.ver_build.specs.Ports.{port_names}
 use Rattle.ver_build.proofs.Names.{all_zipped}
 use Rattle.ver_build.proofs.Premises.{Premises, LeafNamed}
 use Rattle.ver_build.proofs.OrderedLeaves.{ordered_all, ordered_names, ordered_leaves, ordered_named, ordered_once}
-use Rattle.ver_build.proofs.Parts.{registers_of, wires_of, assigns_of, clock_assigns_of, blocks_of, in_parts}
+use Rattle.ver_build.proofs.Parts.{registers_of, arrays_of, wires_of, assigns_of, clock_assigns_of, blocks_of, all_blocks_of, in_parts}
 use Rattle.fir_net.specs.working.Counted.{is_register}
 use Rattle.ver_build.proofs.LeafKinds.{is_input, is_clock_input, is_clock_output, is_output, is_net, is_written, sized_if, picked, picked_sized, picked_names}
-use Rattle.ver_build.proofs.Picked.{picked_once, picked_apart}
-use Rattle.ver_build.proofs.Nets.{inner_name, inner_sized, sizes, inputs_sized, outputs_sized, clocks_are, registers_sized, wires_sized, blocks_are, output_clocks_are, no_arrays, nets_sized, nets_by_part, sizes_named}
+use Rattle.ver_build.proofs.Picked.{picked_named, picked_once, picked_apart}
+use Rattle.ver_build.proofs.Nets.{inner_name, inner_sized, sizes, inputs_sized, outputs_sized, clocks_are, registers_sized, wires_sized, blocks_are, output_clocks_are, arrays_are, nets_sized, nets_by_part, sizes_named}
 use Rattle.ver_build.proofs.Sizes.{IsSized, LeafSized, leaf_is_sized, leaf_sizes, names_once, no_inner, sizes_once}
 use Rattle.ver_build.proofs.InnersSound.{inner_size}
-use Rattle.ver_build.proofs.Fitting.{FitsTarget, AssignAmong, BlockAmong, assigns_sound, assigns_name_nets}
+use Rattle.ver_build.proofs.Fitting.{FitsTarget, AssignAmong, BlockAmong, assigns_sound, assigns_name_nets, known_names}
 use Rattle.ver_build.proofs.ClockAssigns.{assigns_are, clock_assigns_are, clock_targets, clock_targets_once, no_clock_target}
 use Rattle.ver_build.proofs.ClockSides.{ShowsClock, side_names, clocks_shown}
 use Rattle.ver_build.proofs.Driven.{targets_are, clock_targets_are, block_targets_are}
-use Rattle.ver_build.proofs.TextOrder.{net_name, items_declared}
+use Rattle.ver_build.proofs.TextOrder.{all_known, net_name, tree_name, items_declared}
 use Rattle.ver_build.proofs.TextReads.{AssignsBefore, assigns_ordered}
 use Rattle.ver_build.proofs.ProcessOrder.{process_order}
 use Rattle.ver_build.proofs.ProcessesOnce.{is_order}
 use Rattle.ver_build.proofs.Blocks.{block_names, block_sound, block_among}
+use Rattle.ver_build.proofs.ArrayWords.{array_no_leaf}
+use Rattle.ver_build.proofs.StateArrays.{array_at, array_names_are, array_names_once, array_words_many, state_variable, state_variables, tree_names, width_is}
+use Rattle.ver_build.proofs.WritingBlocks.{array_block_among, array_block_sound, array_targets_are, has_writes, in_marked, marked_once}
+use Rattle.ver_build.specs.Arranged.{marked}
+use Rattle.ver_build.specs.working.ArrayBlocks.{array_blocks}
+use Rattle.fir_net.specs.working.Arrays.{words_of}
+use Rattle.std.proofs.lemmas.List.Concat.{flat_map-append}
 
 abbrev IsNarrow : SizedNet → Type 0
 IsNarrow s = (1 ≤ s.1) × (s.1 ≤ 128)
@@ -179,33 +186,72 @@ module _ (net : FlatNet) (t : NameTable) (p : Places) (order : List Read) (is : 
                 (side_names (in_parts net t p order) a.rhs side);
           }
 
+  abbrev known : List (List ℕ)
+  known = known_names net t p order is
+
   declared : DeclaredBefore (port_names (in_parts net t p order)) (in_parts net t p order).items
   declared =
-      items_declared (port_names (in_parts net t p order)) (names_of tree_sizes) (registers_of net t p order) (wires_of net t p order)
-      (assigns_of net t p order) (clock_assigns_of net t p order) (blocks_of net t p order) among (assigns_name_nets net t p order is) clocks_named
-      (all_from (BlockAmong (port_names (in_parts net t p order) ++ names_of tree_sizes)) (blocks_of net t p order)
-      (λ b m. each_more (item_names (block_item b)) (block_names net t p order is) (port_names (in_parts net t p order) ++ names_of tree_sizes) from_clocks (block_among net t p order is b m)))
+      items_declared (port_names (in_parts net t p order)) known (registers_of net t p order) (arrays_of net t p order) (wires_of net t p order)
+      (assigns_of net t p order) (clock_assigns_of net t p order) (all_blocks_of net t p order) among (assigns_name_nets net t p order is) clocks_named
+      (all_from (BlockAmong (port_names (in_parts net t p order) ++ known)) (all_blocks_of net t p order)
+      (λ b m. each_more (item_names (block_item b)) (block_names net t p order is) (port_names (in_parts net t p order) ++ known) from_clocks (named_block b m)))
     where
+      named_block : (b : AlwaysBlock) → In (all_blocks_of net t p order) b → BlockAmong (block_names net t p order is) b
+      named_block b m =
+          ⊎_elim
+          (λ (r : In (blocks_of net t p order) b). block_among net t p order is b r)
+          (λ (a : In (array_blocks net t p) b). array_block_among net t p order is b a)
+          (in_either (blocks_of net t p order) (array_blocks net t p) b m)
+
       -- clocks are ports
-      from_clocks : (x : List ℕ) → In (block_names net t p order is) x → In (port_names (in_parts net t p order) ++ names_of tree_sizes) x
+      from_clocks : (x : List ℕ) → In (block_names net t p order is) x → In (port_names (in_parts net t p order) ++ known) x
       from_clocks x m =
           let ports = port_names (in_parts net t p order) in
           ⊎_elim
-          (λ (k : In (clocks (in_parts net t p order)) x). in_left ports (names_of tree_sizes) x (clock_is_named (in_parts net t p order).ports x k))
-          (λ (k : In (names_of tree_sizes) x). in_right ports (names_of tree_sizes) x k)
-          (in_either (clocks (in_parts net t p order)) (names_of tree_sizes) x m)
+          (λ (k : In (clocks (in_parts net t p order)) x). in_left ports known x (clock_is_named (in_parts net t p order).ports x k))
+          (λ (k : In known x). in_right ports known x k)
+          (in_either (clocks (in_parts net t p order)) known x m)
 
-      inner : List (List ℕ)
-      inner = map net_name (registers_of net t p order) ++ map net_name (wires_of net t p order)
+      rs : List (List ℕ)
+      rs = map net_name (registers_of net t p order)
 
-      among : (x : List ℕ) → In (names_of tree_sizes) x → In (port_names (in_parts net t p order) ++ inner) x
+      ks : List (List ℕ)
+      ks = map tree_name (arrays_of net t p order)
+
+      ws : List (List ℕ)
+      ws = map net_name (wires_of net t p order)
+
+      ports : List (List ℕ)
+      ports = port_names (in_parts net t p order)
+
+      of_inner : (x : List ℕ) → In (map net_name (registers_of net t p order) ++ map net_name (wires_of net t p order)) x
+          → In (all_known (port_names (in_parts net t p order)) (registers_of net t p order) (arrays_of net t p order) (wires_of net t p order)) x
+      of_inner x m =
+          ⊎_elim
+          (λ (k : In (map net_name (registers_of net t p order)) x).
+          in_left ((ports ++ rs) ++ ks) ws x (in_left (ports ++ rs) ks x (in_right ports rs x k)))
+          (λ (k : In (map net_name (wires_of net t p order)) x). in_right ((ports ++ rs) ++ ks) ws x k)
+          (in_either (map net_name (registers_of net t p order)) (map net_name (wires_of net t p order)) x m)
+
+      of_nets : (x : List ℕ) → In (names_of tree_sizes) x
+          → In (all_known (port_names (in_parts net t p order)) (registers_of net t p order) (arrays_of net t p order) (wires_of net t p order)) x
+      of_nets x m =
+          ⊎_elim
+          (λ (k : In (names_of (port_nets (in_parts net t p order))) x).
+          in_left ((ports ++ rs) ++ ks) ws x (in_left (ports ++ rs) ks x (in_left ports rs x (net_is_named (in_parts net t p order).ports x k))))
+          (λ (k : In (map net_name (registers_of net t p order) ++ map net_name (wires_of net t p order)) x). of_inner x k)
+          (in_either (names_of (port_nets (in_parts net t p order))) (map net_name (registers_of net t p order) ++ map net_name (wires_of net t p order)) x
+          (subst (λ (ns : List (List ℕ)). In ns x) (nets_by_part net t p order is) m))
+
+      among : (x : List ℕ) → In known x
+          → In (all_known (port_names (in_parts net t p order)) (registers_of net t p order) (arrays_of net t p order) (wires_of net t p order)) x
       among x m =
           ⊎_elim
-          (λ (k : In (names_of (port_nets (in_parts net t p order))) x). in_left (port_names (in_parts net t p order)) inner x
-          (net_is_named (in_parts net t p order).ports x k))
-          (λ (k : In inner x). in_right (port_names (in_parts net t p order)) inner x k)
-          (in_either (names_of (port_nets (in_parts net t p order))) inner x
-          (subst (λ (ns : List (List ℕ)). In ns x) (nets_by_part net t p order is) m))
+          (λ (k : In (names_of tree_sizes) x). of_nets x k)
+          (λ (k : In (variable_names (state_variables net t)) x).
+          in_left ((ports ++ rs) ++ ks) ws x
+          (in_right (ports ++ rs) ks x (subst (λ (ns : List (List ℕ)). In ns x) (sym (tree_names net t is.whole is.table)) k)))
+          (in_either (names_of tree_sizes) (variable_names (state_variables net t)) x m)
 
   ports_unranged : AllByRecursion IsUnranged (in_parts net t p order).ports
   ports_unranged =
@@ -222,9 +268,9 @@ module _ (net : FlatNet) (t : NameTable) (p : Places) (order : List Read) (is : 
   fits : (a : Assign) → In (assigns (in_parts net t p order)) a → IsSoundAssign (in_parts net t p order) a
   fits a m =
       subst (λ (ks : List Variable). (w : ℕ) × In (nets (in_parts net t p order)) (a.target, w) × IsSoundSide (nets (in_parts net t p order)) ks w a.rhs)
-      (sym (no_arrays net t p order))
-      (subst (λ (ns : List SizedNet). FitsTarget ns a) (sym (nets_sized net t p order is))
-      (all_at (FitsTarget tree_sizes) (assigns_of net t p order) (assigns_sound net t p order is) a
+      (sym (arrays_are net t p order is.whole is.table))
+      (subst (λ (ns : List SizedNet). FitsTarget ns (state_variables net t) a) (sym (nets_sized net t p order is))
+      (all_at (FitsTarget tree_sizes (state_variables net t)) (assigns_of net t p order) (assigns_sound net t p order is) a
       (subst (λ (xs : List Assign). In xs a) (assigns_are net t p order is) m)))
 
   all_targets : targets (assigns (in_parts net t p order)) ≡ inside ++ picked is_output (ordered_names net t) (ordered_leaves net)
@@ -279,8 +325,18 @@ module _ (net : FlatNet) (t : NameTable) (p : Places) (order : List Read) (is : 
 
   written : Distinct (block_targets (blocks (in_parts net t p order)))
   written =
-      subst Distinct (sym (ap block_targets (blocks_are net t p order) ∙ block_targets_are net t p order is.whole is.table))
+      let marked_arrays = marked (map (has_writes net t p) net.array_order) (variable_names (state_variables net t)) in
+      let written_leaves = picked (is_written (clock_in p.leaves)) (ordered_names net t) (ordered_leaves net) in
+      subst Distinct
+      (sym (ap block_targets (blocks_are net t p order) ∙ flat_map-append block_target (blocks_of net t p order) (array_blocks net t p)
+      ∙ ap (λ (ns : List (List ℕ)). ns ++ block_targets (array_blocks net t p)) (block_targets_are net t p order is.whole is.table is.pipes)
+      ∙ ap (λ (ns : List (List ℕ)). written_leaves ++ ns) (array_targets_are net t p order is)))
+      (distinct_joined written_leaves marked_arrays
       (picked_once (is_written (clock_in p.leaves)) (ordered_names net t) (ordered_leaves net) once)
+      (marked_once (map (has_writes net t p) net.array_order) (variable_names (state_variables net t)) (array_names_once net t is.whole is.table))
+      (λ x m n.
+      array_no_leaf net t p order is x (picked_named (is_written (clock_in p.leaves)) (ordered_names net t) (ordered_leaves net) x m)
+      (in_marked (map (has_writes net t p) net.array_order) (variable_names (state_variables net t)) x n)))
 
   pub ordered : AssignsBefore (names_of (input_nets (in_parts net t p order) ++ regs (in_parts net t p order))) (assigns (in_parts net t p order))
   ordered =
@@ -307,13 +363,40 @@ module _ (net : FlatNet) (t : NameTable) (p : Places) (order : List Read) (is : 
       (subst (λ (ns : List (List ℕ)). In ns x) (ap names_of (nets_sized net t p order is) ∙ sizes_named net t p order) k)))
       (in_either (clocks (in_parts net t p order)) (names_of (nets (in_parts net t p order))) x m)
 
+  -- an array is no clock input and no net
+  array_apart : (x : List ℕ) → In (clocks (in_parts net t p order) ++ names_of (nets (in_parts net t p order))) x → In (variable_names (state_variables net t)) x → ⊥
+  array_apart x m a =
+      let nets_of = picked is_net (ordered_names net t) (ordered_leaves net) in
+      ⊎_elim
+      (λ (k : In (clocks (in_parts net t p order)) x).
+      array_no_leaf net t p order is x
+      (picked_named is_clock_input (ordered_names net t) (ordered_leaves net) x (subst (λ (ns : List (List ℕ)). In ns x) (clocks_are net t p order) k)) a)
+      (λ (k : In (names_of (nets (in_parts net t p order))) x).
+      ⊎_elim
+      (λ (i : In nets_of x). array_no_leaf net t p order is x (picked_named is_net (ordered_names net t) (ordered_leaves net) x i) a)
+      (λ (i : In inside x).
+      apart (ordered_all net t) inside (names_once net t p order is) x
+      (in_right (somes (ordered_names net t)) (somes (map (name_at t.arrays) net.array_order)) x
+      (subst (λ (ns : List (List ℕ)). In ns x) (array_names_are net t is.whole is.table) a)) i)
+      (in_either nets_of inside x
+      (subst (λ (ns : List (List ℕ)). In ns x) (ap names_of (nets_sized net t p order is) ∙ sizes_named net t p order) k)))
+      (in_either (clocks (in_parts net t p order)) (names_of (nets (in_parts net t p order))) x m)
+
   all_declared_once : Distinct ((clocks (in_parts net t p order) ++ names_of (nets (in_parts net t p order)))
       ++ (variable_names (arrays (in_parts net t p order)) ++ output_clocks (in_parts net t p order)))
   all_declared_once =
       let here = clocks (in_parts net t p order) ++ names_of (nets (in_parts net t p order)) in
-      subst (λ (ks : List Variable). Distinct (here ++ (variable_names ks ++ output_clocks (in_parts net t p order)))) (sym (no_arrays net t p order))
-      (subst (λ (ns : List (List ℕ)). Distinct (here ++ ns)) (sym (output_clocks_are net t p order))
-      (distinct_joined here outs all_once (picked_once is_clock_output (ordered_names net t) (ordered_leaves net) once) outputs_apart))
+      let names = variable_names (state_variables net t) in
+      subst (λ (ks : List Variable). Distinct (here ++ (variable_names ks ++ output_clocks (in_parts net t p order)))) (sym (arrays_are net t p order is.whole is.table))
+      (subst (λ (ns : List (List ℕ)). Distinct (here ++ (names ++ ns))) (sym (output_clocks_are net t p order))
+      (distinct_joined here (names ++ outs) all_once
+      (distinct_joined names outs (array_names_once net t is.whole is.table) (picked_once is_clock_output (ordered_names net t) (ordered_leaves net) once)
+      (λ x a o. array_no_leaf net t p order is x (picked_named is_clock_output (ordered_names net t) (ordered_leaves net) x o) a))
+      (λ x m n.
+      ⊎_elim
+      (λ (a : In (variable_names (state_variables net t)) x). array_apart x m a)
+      (λ (o : In outs x). outputs_apart x m o)
+      (in_either names outs x n))))
 
   all_driven_once : Distinct (targets (assigns (in_parts net t p order) ++ clock_assigns (in_parts net t p order)))
   all_driven_once =
@@ -326,10 +409,26 @@ module _ (net : FlatNet) (t : NameTable) (p : Places) (order : List Read) (is : 
       (subst (λ (ns : List (List ℕ)). In ns x) (clock_targets net t p order is ∙ output_clocks_are net t p order) o)))
 
   all_sound : (b : AlwaysBlock) → In (blocks (in_parts net t p order)) b → IsSoundBlock (in_parts net t p order) b
-  all_sound b m = block_sound net t p order is b (subst (λ (bs : List AlwaysBlock). In bs b) (blocks_are net t p order) m)
+  all_sound b m =
+      ⊎_elim
+      (λ (r : In (blocks_of net t p order) b). block_sound net t p order is b r)
+      (λ (a : In (array_blocks net t p) b). array_block_sound net t p order is b a)
+      (in_either (blocks_of net t p order) (array_blocks net t p) b (subst (λ (bs : List AlwaysBlock). In bs b) (blocks_are net t p order) m))
 
-  no_array_in : (k : Variable) → In (arrays (in_parts net t p order)) k → ⊥
-  no_array_in k m = subst (λ (ks : List Variable). In ks k) (no_arrays net t p order) m
+  array_narrow : (k : Variable) → In (arrays (in_parts net t p order)) k → (1 ≤ k.width) × (k.width ≤ 128)
+  array_narrow k m =
+      let from = in_map_from (state_variable net t) net.array_order k (subst (λ (ks : List Variable). In ks k) (arrays_are net t p order is.whole is.table) m) in
+      let a = array_at net t is.whole is.table from.0 from.1 in
+      let wide : k.width ≡ a.array.width = sym (ap (λ (x : Variable). x.width) from.2) ∙ width_is net t from.0 a in
+      let some = a.some in
+      let narrow = a.whole.narrow in
+      (omega arith, omega arith)
+
+  few_words : sum_by (λ (k : Variable). k.depth) (arrays (in_parts net t p order)) ≤ 4194304
+  few_words =
+      let many : sum_by (λ (k : Variable). k.depth) (arrays (in_parts net t p order)) ≡ sum_by (words_of net.arrays) net.array_order =
+      ap (sum_by (λ (k : Variable). k.depth)) (arrays_are net t p order is.whole is.table) ∙ array_words_many net t in
+      subst (λ (n : ℕ). n ≤ 4194304) (sym many) is.whole.few_words
 
   pub parts_valid : Valid (in_parts net t p order)
   parts_valid = record {
@@ -337,8 +436,8 @@ module _ (net : FlatNet) (t : NameTable) (p : Places) (order : List Read) (is : 
     declared_before = declared;
     plain_clocks = all_at IsUnranged (in_parts net t p order).ports ports_unranged;
     narrow = λ n w m. all_at IsNarrow tree_sizes all_narrow (n, w) (subst (λ (ns : List SizedNet). In ns (n, w)) (nets_sized net t p order is) m);
-    narrow_words = λ k m. absurd (no_array_in k m);
-    few_words = subst (λ (ks : List Variable). sum_by (λ (k : Variable). k.depth) ks ≤ 4194304) (sym (no_arrays net t p order)) (omega arith);
+    narrow_words = array_narrow;
+    few_words = few_words;
     sound_assigns = fits;
     driven_once = all_driven_once;
     driven = λ n m. subst (λ ns. In ns n) all_driven m;

@@ -1,6 +1,6 @@
 -- The walk along an order, step by step.
 -- The place of a leaf or a node is written once, after the places of all that it hangs on, so what has been passed stays as it is.
-use Rattle.std.proofs.Common.{◌≡◌, ℕ, zero, suc, ◌+◌, ◌*◌, ◌^◌, ◌<◌, ◌≤◌, List, [], ◌∷◌, ◌++◌, length, get_or, take, flat_map, refl, sym, ap, ◌∙◌, inl, inr, ⊎_elim, ◌⊎◌, subst, arith, Option, Some, None, unwrap_or, append-nil}
+use Rattle.std.proofs.Common.{◌≡◌, ℕ, zero, suc, ◌+◌, ◌*◌, ◌^◌, ◌<◌, ◌≤◌, List, [], ◌∷◌, ◌++◌, length, get_or, take, flat_map, refl, sym, ap, ◌∙◌, inl, inr, ⊎_elim, ◌⊎◌, subst, arith, Option, Some, unwrap_or, append-nil}
 use Rattle.std.specs.Prelude.{slice_get}
 use Rattle.std.proofs.Math.ListN.{set}
 use Rattle.std.proofs.lemmas.List.{length-set, get_or-set_same, get_or-set_other}
@@ -69,6 +69,7 @@ no_names l role.Clock p is none = rw is refl
 no_names l (role.Output r) p is none = rw is refl
 no_names l (role.Wire r) p is none = rw is refl
 no_names l (role.Register r) p is none = rw is refl
+no_names l (role.Pipe q) p is none = rw is refl
 no_names l (role.ClockOutput c) p is none = rw is refl
 no_names l (role.ClockWire c) p is none = rw is refl
 
@@ -257,6 +258,8 @@ module _ (net : FlatNet) (t : NameTable) (order : List Read) (is : IsOrder net o
       rw (step.0, step.1) (leaf_by nodes readings i from k l less at leaf (λ a e. let bad : role.Wire r ≡ role.Reading a = sym same ∙ e in cc) walk)
   role_step nodes readings new i from to k l (role.Register r) less at leaf same step walk =
       rw (step.0, step.1) (leaf_by nodes readings i from k l less at leaf (λ a e. let bad : role.Register r ≡ role.Reading a = sym same ∙ e in cc) walk)
+  role_step nodes readings new i from to k l (role.Pipe q) less at leaf same step walk =
+      rw (step.0, step.1) (leaf_by nodes readings i from k l less at leaf (λ a e. let bad : role.Pipe q ≡ role.Reading a = sym same ∙ e in cc) walk)
   role_step nodes readings new i from to k l (role.ClockOutput c) less at leaf same step walk =
       rw (step.0, step.1) (leaf_by nodes readings i from k l less at leaf (λ a e. let bad : role.ClockOutput c ≡ role.Reading a = sym same ∙ e in cc) walk)
   role_step nodes readings new i from to k l (role.ClockWire c) less at leaf same step walk =

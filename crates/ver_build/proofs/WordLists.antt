@@ -8,7 +8,8 @@ use Rattle.fir_base.proofs.Members.{in_right}
 use Rattle.fir_net.specs.declared.leaf.Leaf.{Leaf}
 use Rattle.fir_net.specs.declared.net.FlatNet.{FlatNet}
 use Rattle.fir_net.specs.working.Counted.{is_register}
-use Rattle.fir_net.specs.working.IsNet.{IsNet}
+use Rattle.fir_net.specs.working.IsNet.{is_state, IsNet}
+use Rattle.fir_net.specs.working.IsWritable.{HasNoPipes}
 use Rattle.fir_net_names.specs.declared.name_table.NameTable.{NameTable}
 use Rattle.fir_net_names.specs.working.IsTable.{IsTable}
 use Rattle.fir_net_names.specs.working.LeafNamed.{named_ports, name_at}
@@ -16,6 +17,7 @@ use Rattle.ver_ast.specs.Nets.{SizedNet}
 use Rattle.ver_build.specs.working.Built.{at_number, at_numbers}
 use Rattle.ver_build.proofs.Names.{NameList, zipped}
 use Rattle.ver_build.proofs.LeafKinds.{name_if, sized_if, picked, picked_sized}
+use Rattle.ver_build.proofs.Premises.{no_pipe, state_register}
 use Rattle.ver_build.proofs.TableLeaves.{word_leaf}
 use Rattle.ver_build.proofs.OrderedLeaves.{ordered_names, ordered_leaves, OfWords, word_given, names_word, sizes_word}
 
@@ -34,7 +36,7 @@ flat_numbers {B} g w names leaves (k ∷ ks) each =
     ap (λ (ys : List B). ys ++ at_numbers g names leaves ks) (each k (inl refl))
     ∙ ap (λ (ys : List B). w k ++ ys) (flat_numbers g w names leaves ks (λ j m. each j (inr m)))
 
-module _ (net : FlatNet) (t : NameTable) (whole : IsNet net) (table : IsTable net t) where
+module _ (net : FlatNet) (t : NameTable) (whole : IsNet net) (table : IsTable net t) (pipes : HasNoPipes net) where
   -- what holds of the words that have names
   at_word : {B : Type 0} → (g : Leaf → Option (List ℕ) → List B) (Q : ℕ → List B → Type 0)
       → ((k : ℕ) (l : Leaf) (name : List ℕ) → slice_get net.leaves k ≡ Some l → is_register l.role ≡ true → name_at t.leaves k ≡ Some name
@@ -45,7 +47,8 @@ module _ (net : FlatNet) (t : NameTable) (whole : IsNet net) (table : IsTable ne
       let name = table.has k (in_right (named_ports 0 net.leaves) net.state k m) in
       let at : slice_get net.leaves k ≡ Some word.0 = word.1 in
       let named : name_at t.leaves k ≡ Some name.0 = name.1 in
-      rw (at, named) (each k word.0 name.0 at (and_parts (is_register word.0.role) (not (nat_eq word.0.width 0)) word.2).0 named)
+      let parts = and_parts (is_state word.0.role) (not (nat_eq word.0.width 0)) word.2 in
+      rw (at, named) (each k word.0 name.0 at (state_register word.0.role (no_pipe net pipes k word.0 word.1) parts.0) named)
 
   -- what the words give, where a register gives something
   pub words_given : {B : Type 0} → (g : Leaf → Option (List ℕ) → List B) → OfWords g → (w : ℕ → List B)

@@ -14,7 +14,8 @@ use Rattle.fir_net.specs.declared.leaf.Role.TheVariants as role
 use Rattle.fir_net.specs.declared.leaf.Leaf.{Leaf}
 use Rattle.fir_net.specs.declared.net.FlatNet.{FlatNet}
 use Rattle.fir_net.specs.working.Counted.{is_register}
-use Rattle.fir_net.specs.working.IsNet.{IsNet}
+use Rattle.fir_net.specs.working.IsNet.{is_state, IsNet}
+use Rattle.fir_net.specs.working.IsWritable.{HasNoPipes}
 use Rattle.fir_net_names.specs.declared.name_table.NameTable.{NameTable}
 use Rattle.fir_net_names.specs.working.IsTable.{IsTable}
 use Rattle.fir_net_names.specs.working.LeafNamed.{named_ports, name_at}
@@ -27,7 +28,7 @@ use Rattle.ver_build.specs.working.Operands.{atom_at}
 use Rattle.ver_build.specs.working.Places.{held_of, clock_in}
 use Rattle.ver_build.specs.working.Blocks.{own_net, role_net, leaf_net, edge_on, block_on, role_block}
 use Rattle.ver_build.specs.working.Built.{at_number, reset_inners, word_block, word_blocks}
-use Rattle.ver_build.proofs.Premises.{LeafNamed, some_bits}
+use Rattle.ver_build.proofs.Premises.{LeafNamed, no_pipe, register_state, some_bits, state_register}
 use Rattle.ver_build.proofs.LeafKinds.{is_wire}
 use Rattle.ver_build.proofs.TableLeaves.{word_leaf, leaf_named}
 
@@ -59,15 +60,16 @@ own_given p (Some r) None i m = absurd m
 own_given p (Some r) (Some name) i (inl e) = (r, name, refl, refl, sym e)
 own_given p (Some r) (Some name) i (inr m) = absurd m
 
-module _ (net : FlatNet) (t : NameTable) (whole : IsNet net) (table : IsTable net t) where
+module _ (net : FlatNet) (t : NameTable) (whole : IsNet net) (table : IsTable net t) (pipes : HasNoPipes net) where
   pub word_at : (k : ℕ) → In net.state k → IsWord net t k
   word_at k m =
       let word = word_leaf net whole k m in
-      let parts = and_parts (is_register word.0.role) (not (nat_eq word.0.width 0)) word.2 in
-      let own = register_of word.0.role parts.0 in
+      let parts = and_parts (is_state word.0.role) (not (nat_eq word.0.width 0)) word.2 in
+      let own = register_of word.0.role (state_register word.0.role (no_pipe net pipes k word.0 word.1) parts.0) in
       let name = table.has k (in_right (named_ports 0 net.leaves) net.state k m) in
       record { leaf = word.0; at = word.1; own = own.0; register = own.1; some = some_bits word.0.width parts.1; name = name.0; named = name.1 }
 
+module _ (net : FlatNet) (t : NameTable) (whole : IsNet net) (table : IsTable net t) where
   -- a register that has a name
   abbrev pub leaf_word : (k : ℕ) (l : Leaf) (own : Register) (name : List ℕ) → slice_get net.leaves k ≡ Some l → l.role ≡ role.Register own
       → name_at t.leaves k ≡ Some name → IsWord net t k
@@ -80,7 +82,7 @@ module _ (net : FlatNet) (t : NameTable) (whole : IsNet net) (table : IsTable ne
       → In net.state k
   named_word k l name at kind named =
       let bits = named_bits l (name_at t.leaves k) name (leaf_named net whole t table k l at) named in
-      let place = whole.state.all k l at (and_from (is_register l.role) (not (nat_eq l.width 0)) kind bits) in
+      let place = whole.state.all k l at (and_from (is_state l.role) (not (nat_eq l.width 0)) (register_state l.role kind) bits) in
       get_in net.state place.0 k place.1
 
 module _ (net : FlatNet) (t : NameTable) (p : Places) where
@@ -127,16 +129,16 @@ module _ (net : FlatNet) (t : NameTable) (p : Places) where
       in_flat_map (at_number (leaf_net p) p.resets net.leaves) net.state k (net_inner p r name) m
       (subst (λ (xs : List Inner). In xs (net_inner p r name)) (sym (net_is k w ∙ given)) (inl refl))
 
-  module _ (whole : IsNet net) (table : IsTable net t) where
+  module _ (whole : IsNet net) (table : IsTable net t) (pipes : HasNoPipes net) where
     pub block_of : (b : AlwaysBlock) → In (word_blocks net t p) b → BlockOf b
     block_of b m =
         let from = in_flat_map_from (word_block net t p) net.state b m in
-        let word = word_at net t whole table from.0 from.1 in
+        let word = word_at net t whole table pipes from.0 from.1 in
         record { number = from.0; among = from.1; word = word; inside = subst (λ (bs : List AlwaysBlock). In bs b) (block_is from.0 word) from.2 }
 
     pub net_of : (i : Inner) → In (reset_inners net p) i → NetOf i
     net_of i m =
         let from = in_flat_map_from (at_number (leaf_net p) p.resets net.leaves) net.state i m in
-        let word = word_at net t whole table from.0 from.1 in
+        let word = word_at net t whole table pipes from.0 from.1 in
         let given = own_given p word.own.reset (name_at p.resets from.0) i (subst (λ (xs : List Inner). In xs i) (net_is from.0 word) from.2) in
         record { number = from.0; among = from.1; word = word; reset = given.0; has = given.2; name = given.1; named = given.3; is = given.4 }

@@ -1,7 +1,9 @@
 -- What is built along the writes of an array, with one more.
-use Rattle.std.proofs.Common.{◌≡◌, ℕ, zero, suc, ◌+◌, ◌<◌, List, [], ◌∷◌, ◌++◌, length, get_or, take, map, flat_map, refl, sym, ap, ◌∙◌, append_assoc, append-nil, arith, Option, Some, None, unwrap_or}
+use Rattle.std.proofs.Common.{◌≡◌, ℕ, zero, suc, ◌+◌, ◌<◌, ⊎_elim, List, [], ◌∷◌, ◌++◌, length, get_or, take, map, flat_map, refl, sym, ap, ◌∙◌, append_assoc, append-nil, arith, Option, Some, None, unwrap_or}
 use Rattle.std.specs.Prelude.{slice_get}
 use Rattle.std.proofs.lemmas.List.{take_more, length-take, map-append}
+use Rattle.fir_base.specs.Lists.{In}
+use Rattle.fir_base.proofs.Members.{in_either, in_left, in_right}
 use Rattle.fir_net.specs.declared.array.ArrayWrite.{ArrayWrite}
 use Rattle.ver_build.specs.declared.places.Guard.{Guard}
 use Rattle.ver_build.specs.working.Places.{along_writes, guard_names}
@@ -47,3 +49,27 @@ writes_mapped g f h same n [] = refl
 writes_mapped {B} {C} g f h same n (w ∷ ws) =
     map-append g (f n w) (along_writes f (n + 1) ws) ∙ ap (λ (l : List C). l ++ map g (along_writes f (n + 1) ws)) (same n w)
     ∙ ap (λ (l : List C). h n w ++ l) (writes_mapped g f h same (n + 1) ws)
+
+-- what is made of all is made of one of them, and the other way round
+pub in_writes_from : {B : Type 0} → (f : ℕ → ArrayWrite → List B) (n : ℕ) (ws : List ArrayWrite) (y : B) → In (along_writes f n ws) y
+    → (j : ℕ) × (w : ArrayWrite) × (slice_get ws j ≡ Some w) × In (f (n + j) w) y
+in_writes_from f n [] y m = absurd m
+in_writes_from f n (w ∷ ws) y m =
+    ⊎_elim
+    (λ (a : In (f n w) y). let e : n ≡ n + 0 = omega arith in (0, w, refl, rw (← e) a))
+    (λ (b : In (along_writes f (n + 1) ws) y).
+    let r = in_writes_from f (n + 1) ws y b in
+    let e : n + 1 + r.0 ≡ n + suc r.0 = omega arith in
+    (suc r.0, r.1, r.2, rw (← e) r.3))
+    (in_either (f n w) (along_writes f (n + 1) ws) y m)
+
+pub in_writes : {B : Type 0} → (f : ℕ → ArrayWrite → List B) (n : ℕ) (ws : List ArrayWrite) (j : ℕ) (w : ArrayWrite) (y : B) → slice_get ws j ≡ Some w
+    → In (f (n + j) w) y → In (along_writes f n ws) y
+in_writes f n [] j w y at m = absurd (cc)
+in_writes f n (v ∷ ws) zero w y at m =
+    let same : v ≡ w = cc in
+    let e : n + 0 ≡ n = omega arith in
+    in_left (f n v) (along_writes f (n + 1) ws) y (rw (same, ← e) m)
+in_writes f n (v ∷ ws) (suc j) w y at m =
+    let e : n + suc j ≡ n + 1 + j = omega arith in
+    in_right (f n v) (along_writes f (n + 1) ws) y (in_writes f (n + 1) ws j w y at (rw (← e) m))

@@ -4,7 +4,7 @@ ghost use Rattle.std.specs.Prelude.{◌≡◌, IfOk};
 ghost use Rattle.fir_net.specs.working.IsNet.{IsNet};
 ghost use Rattle.fir_net.specs.working.WordNames.{HasWordNames};
 ghost use Rattle.fir_net.specs.working.IsOrder.{IsOrder};
-ghost use Rattle.fir_net.specs.working.IsWritable.{IsWritable};
+ghost use Rattle.fir_net.specs.working.IsWritable.{HasNoPipes, IsWritable};
 ghost use Rattle.ver_build.specs.working.Built.{built};
 ghost use Rattle.ver_build.specs.working.Builds.{Builds};
 
@@ -80,6 +80,7 @@ pub fn build(alloc: Global, net: &FlatNet, order: &Order) -> Result<Verilog, Mem
     requires whole { IsNet net.now }
     requires words { HasWordNames net.now }
     requires writable { IsWritable net.now }
+    requires no_pipes { HasNoPipes net.now }
     requires ordered { IsOrder net.now order.now }
     ensures { IfOk result (λ v. Builds net.now v) }
 {

@@ -48,9 +48,11 @@ fn put_port(
             Role::Clock => (true, Direction::Input, 1),
             Role::Output(_) => (false, Direction::Output, leaf.width),
             Role::ClockOutput(_) => (true, Direction::Output, 1),
-            Role::Wire(_) | Role::Register(_) | Role::Reading(_) | Role::ClockWire(_) => {
-                return Ok(())
-            }
+            Role::Wire(_)
+            | Role::Register(_)
+            | Role::Reading(_)
+            | Role::Pipe(_)
+            | Role::ClockWire(_) => { return Ok(()) }
         };
         ports.push(Port {
             is_clock,

@@ -4,7 +4,7 @@ ghost use Rattle.ver_build.specs.working.Laws.{NamesAreForRows, BuiltHasAnyPlace
 
 use ver_ast::places_count_for_nothing;
 
-/// The names of a net's leaves are those for its ports and then for the words of its state.
+/// The names of a net's leaves and arrays are those for its ports and then for the words and the arrays of its state.
 pub fn names_are_for_rows()
     ensures { NamesAreForRows }
 {}

@@ -91,6 +91,8 @@ fn leaf_place(
             Ok(Place::Value(held.fit(leaf.width)))
         }
         Role::Reading(_) => Ok(Place::Value(reading_in(alloc, readings, number)?)),
+        // A net that is built has none.
+        Role::Pipe(_) => Ok(Place::Value(Held::no_bits())),
         Role::Clock => Ok(Place::Clock(Some(number))),
         Role::ClockOutput(driver) | Role::ClockWire(driver) => {
             Ok(Place::Clock(driven_clock_in(leaves, driver)))

@@ -1,6 +1,6 @@
--- Where the modules of a design stand in its circuit, and that each leaf is given its value by one of them as that module gives it (FIRRTL spec, "Instances",
--- "Last Connect Semantics").
-use Rattle.std.specs.Prelude.{◌≡◌, ◌⊎◌, ℕ, ◌<◌, ◌≤◌, List, ◌++◌, length, Some, slice_get}
+-- Where the modules of a design stand in its circuit with their leaves and their arrays, and that each leaf is given its value by one of them as that module
+-- gives it (FIRRTL spec, "Instances", "Memories", "Last Connect Semantics").
+use Rattle.std.specs.Prelude.{◌≡◌, ◌⊎◌, ℕ, ◌+◌, ◌<◌, ◌≤◌, List, ◌++◌, length, Some, slice_get}
 use Rattle.fir_base.specs.Lists.{In}
 use Rattle.fir_ast.specs.Circuits.{CircuitTree}
 use Rattle.fir_meaning.specs.LeafPaths.{LeafPath}
@@ -8,9 +8,10 @@ use Rattle.fir_meaning.specs.ModuleScenes.{Scene}
 use Rattle.fir_meaning.specs.SourceDesigns.{SourceDesign}
 use Rattle.fir_meaning.specs.WidthRules.{AreWidths}
 use Rattle.fir_meaning.specs.working.Designs.{Design}
+use Rattle.fir_meaning.specs.working.FlatLeaves.{placed_array}
 use Rattle.fir_meaning.specs.working.Flattened.{flattened}
 use Rattle.fir_meaning.specs.working.LeafCircuits.{LeafCircuit}
-use Rattle.fir_meaning.specs.working.LeafModules.{LeafModule, leaf_at, role_at, source}
+use Rattle.fir_meaning.specs.working.LeafModules.{LeafArray, LeafModule, leaf_at, role_at, source}
 use Rattle.fir_meaning.specs.working.LeafedModules.{leafed_module}
 use Rattle.fir_meaning.specs.working.Numberings.{Numbering, number, numbering}
 use Rattle.fir_leaf_types.specs.working.TypedModules.{held_in}
@@ -27,14 +28,13 @@ HaveWidths c scenes = (s : Scene) → In scenes s → AreWidths c s.widths
 abbrev pub numbers_of : LeafModule → Copy → Numbering
 numbers_of m k = numbering m k.first k.own
 
--- the module of a copy, by its scene: its leaves stand at their numbers, with their paths behind that of the instance and with what they hold; and what is no
--- source in the module has the role that its module gives it, moved
+-- the module of a copy, by its scene: its leaves stand at their numbers, with their paths behind that of the instance and with what they hold; what is no
+-- source in the module has the role that its module gives it, moved; and its arrays stand at their numbers, placed
 pub record StandsIn (scenes : List Scene) (c : LeafCircuit) (k : Copy) : Type 0 where
   pub scene : Scene
   pub is : slice_get scenes k.module_number ≡ Some scene
   pub ports : (leafed_module scene).port_leaves ≤ length (leafed_module scene).leaves
   pub path : LeafPath
-  pub array : ℕ
   pub within : (x : ℕ) → x < length (leafed_module scene).leaves → number (numbers_of (leafed_module scene) k) x < length c.leaves
   pub paths :
       (x : ℕ) → x < length (leafed_module scene).leaves
@@ -48,7 +48,11 @@ pub record StandsIn (scenes : List Scene) (c : LeafCircuit) (k : Copy) : Type 0 
   pub roles :
       (x : ℕ) → x < length (leafed_module scene).leaves → (role_at (leafed_module scene) x ≡ source → ⊥)
       → net_role_at (as_module c) (number (numbers_of (leafed_module scene) k) x)
-      ≡ moved_net_role (numbers_of (leafed_module scene) k) array (net_role_at (leafed_module scene) x)
+      ≡ moved_net_role (numbers_of (leafed_module scene) k) k.array (net_role_at (leafed_module scene) x)
+  pub arrays_within : k.array + length (leafed_module scene).arrays ≤ length c.arrays
+  pub arrays :
+      (i : ℕ) (a : LeafArray) → slice_get (leafed_module scene).arrays i ≡ Some a
+      → slice_get c.arrays (k.array + i) ≡ Some (placed_array path (numbers_of (leafed_module scene) k) a)
 
 -- a leaf of the circuit is one of a copy, and no source there; or it is an input of the main module
 pub record IsGivenBy (scenes : List Scene) (k : Copy) (y : ℕ) : Type 0 where

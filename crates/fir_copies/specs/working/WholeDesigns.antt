@@ -1,5 +1,5 @@
--- What holds of each module of a design holds of its circuit: that it has types, and that each leaf is driven that statements must drive (FIRRTL spec,
--- "Expressions", "Initialization of Components", "Instances").
+-- What holds of each module of a design holds of its circuit: that it has types, and its memories, and that each leaf is driven that statements must drive
+-- (FIRRTL spec, "Expressions", "Memories", "Initialization of Components", "Instances").
 use Rattle.fir_base.specs.Lists.{In}
 use Rattle.fir_ast.specs.Circuits.{CircuitTree}
 use Rattle.fir_meaning.specs.ModuleScenes.{Scene}
@@ -10,6 +10,7 @@ use Rattle.fir_meaning.specs.working.LeafModules.{LeafModule}
 use Rattle.fir_meaning.specs.working.LeafedModules.{leafed_module}
 use Rattle.fir_meaning.specs.working.UndrivenLeaves.{AreDriven}
 use Rattle.fir_leaf_types.specs.working.TypedModules.{IsModuleTyped}
+use Rattle.fir_memory_types.specs.working.TypedMemories.{AreMemoriesTyped}
 use Rattle.fir_design.specs.working.MeaningLaws.{AreDesigns}
 use Rattle.fir_connect.specs.working.CircuitModules.{as_module}
 use Rattle.fir_copies.specs.working.CopyLaws.{HaveWidths}
@@ -25,6 +26,13 @@ abbrev pub DesignsAreTyped : Type 0
 DesignsAreTyped =
     (c : CircuitTree) (d : Design) (t : SourceDesign) (a : AreDesigns c d t) → HaveWidths c a.scenes
     → ((s : Scene) → In a.scenes s → IsModuleTyped (leafed_module s)) → IsModuleTyped (as_module (flattened d))
+
+-- and the types of memories
+abbrev pub DesignsHaveTypedMemories : Type 0
+DesignsHaveTypedMemories =
+    (c : CircuitTree) (d : Design) (t : SourceDesign) (a : AreDesigns c d t) → HaveWidths c a.scenes
+    → ((s : Scene) → In a.scenes s → AreMemoriesTyped (leafed_module s).leaves (leafed_module s).arrays)
+    → AreMemoriesTyped (flattened d).leaves (flattened d).arrays
 
 abbrev pub DesignsAreDriven : Type 0
 DesignsAreDriven = HoldsOfDesigns AreDriven

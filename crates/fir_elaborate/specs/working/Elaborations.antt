@@ -14,7 +14,7 @@ use Rattle.fir_elaborate.specs.working.CopyPaths.{paths_below, prefix_text}
 use Rattle.fir_elaborate.specs.working.OrderedModules.{IsOrdered, instances_of}
 
 abbrev pub copy_seen : ModuleCopy → Copy
-copy_seen k = record { module_number = k.module_number; first = k.first; own = k.own }
+copy_seen k = record { module_number = k.module_number; first = k.first; own = k.own; array = k.array }
 
 -- a module of the code with the names of what it declares: it is that of the definitions, in order, and its instances are of modules that are there
 pub record IsViewed (views : List LeafModule) (m : LeafModule) (part : ModuleOfCode) (ns : List (List ℕ)) : Type 0 where
@@ -30,8 +30,10 @@ pub record AreViewed (views : List LeafModule) (parts : List ModuleOfCode) (name
   pub each : (x : ℕ) (part : ModuleOfCode) (ns : List (List ℕ)) → slice_get parts x ≡ Some part → slice_get names x ≡ Some ns
       → IsViewed views (module_of views x) part ns
 
--- the copies of the modules below the main one of that number, what stands before the paths of their leaves, and the words of the state in their order
+-- the copies of the modules below the main one of that number, what stands before the paths of their leaves, and the words and the arrays of the state in
+-- their order
 pub record IsElaborated (main : ℕ) (d : Design) (e : Elaborated) : Type 0 where
   pub copies : map copy_seen e.copies.items ≡ copies_of main d
   pub prefixes : map (λ (k : ModuleCopy). k.prefix) e.copies.items ≡ map prefix_text (paths_below [] d)
   pub state : e.state.items ≡ (flattened d).words
+  pub array_order : e.array_order.items ≡ (flattened d).array_order

@@ -5,6 +5,7 @@ use Rattle.fir_meaning.specs.working.UndrivenLeaves.{AreDriven}
 use Rattle.fir_meaning.specs.working.LeafAllows as leafed
 use Rattle.fir_meaning.specs.working.LeafCircuits.{LeafCircuit}
 use Rattle.fir_leaf_types.specs.working.TypedModules.{IsModuleTyped}
+use Rattle.fir_memory_types.specs.working.TypedMemories.{AreMemoriesTyped}
 use Rattle.fir_net.specs.declared.net.FlatNet.{FlatNet}
 use Rattle.fir_net.specs.working.Allows.{Allows}
 use Rattle.fir_net.specs.working.IsNet.{IsNet}
@@ -12,11 +13,12 @@ use Rattle.fir_net.specs.working.One.{One}
 use Rattle.fir_connect.specs.working.CircuitModules.{as_module}
 use Rattle.fir_flat.specs.working.FlatCircuits.{IsFlatOf}
 
--- a whole net of a circuit that has types and in which each leaf is driven that statements must drive
+-- a whole net of a circuit that has types, also of its memories, and in which each leaf is driven that statements must drive
 pub record IsFaithful (c : LeafCircuit) (net : FlatNet) : Type 0 where
   pub whole : IsNet net
   pub flat : IsFlatOf c net
   pub typed : IsModuleTyped (as_module c)
+  pub memories : AreMemoriesTyped c.leaves c.arrays
   pub driven : AreDriven (as_module c)
 
 abbrev pub AllowsTheSame : Type 0

@@ -3,8 +3,9 @@ use Rattle.std.specs.Prelude.{◌≡◌, ℕ, ◌+◌, ◌<◌, List, [], ◌∷
 use Rattle.fir_base.specs.Lists.{In}
 use Rattle.fir_ast.specs.declared.place.Place.{Place}
 use Rattle.fir_driven.specs.working.DrivenFlags.{AreDriven}
-use Rattle.fir_leaf_circuit.specs.working.Seen.{HasView, type_seen}
+use Rattle.fir_leaf_circuit.specs.working.Seen.{HasView, type_seen, writing_seen}
 use Rattle.fir_leaf_types.specs.working.TypedModules.{held_in}
+use Rattle.fir_memory_types.specs.working.TypedMemories.{AreMemoriesTyped}
 use Rattle.fir_meaning.specs.LeafPaths.{path_text}
 use Rattle.fir_meaning.specs.LeafTypes.{LeafType}
 use Rattle.fir_meaning.specs.ModuleScenes.{Scene}
@@ -13,7 +14,7 @@ use Rattle.fir_meaning.specs.working.Elaborated.{views}
 use Rattle.fir_meaning.specs.working.FlatDesigns.{inner_leaves}
 use Rattle.fir_meaning.specs.working.Flattened.{port_leaves}
 use Rattle.fir_meaning.specs.working.LeafCircuits.{LeafCircuit, role_of}
-use Rattle.fir_meaning.specs.working.LeafModules.{LeafDeclared, LeafModule, Role, pipe, reading, register, role_at, source}
+use Rattle.fir_meaning.specs.working.LeafModules.{LeafArray, LeafDeclared, LeafModule, Role, register, role_at, source}
 use Rattle.fir_meaning.specs.working.LeafedModules.{leafed_module}
 use Rattle.fir_meaning.specs.working.LeafNames.{path_of_leaf, place_of_leaf}
 use Rattle.fir_meaning.specs.working.UndrivenChoices.{drives_any}
@@ -24,11 +25,13 @@ use Rattle.fir_connect.specs.working.NetRoles as meant
 use Rattle.fir_connect.specs.working.NetTerms.{NetTerm}
 use Rattle.fir_copies.specs.working.CopyLaws.{IsGiven, StandsIn}
 use Rattle.fir_elaborate.specs.declared.elaborated.ModuleCopy.{ModuleCopy}
+use Rattle.fir_elaborate.specs.working.CopyArrays.{array_seen, arrays_of_copy}
 use Rattle.fir_elaborate.specs.working.Elaborations.{copy_seen}
 use Rattle.fir_merge.specs.working.NodeTerms.{ReadBefore}
 use Rattle.fir_whens.specs.declared.net_role.NetRole.{NetRole}
 use Rattle.fir_whens.specs.working.ModuleNets.{IsNetOf}
 use Rattle.fir_whens.specs.working.StandingRoles.{RoleStands}
+use Rattle.fir_flatten.specs.declared.design_arrays.DesignArray.{DesignArray}
 use Rattle.fir_flatten.specs.declared.design_net.DesignLeaf.{DesignLeaf}
 use Rattle.fir_flatten.specs.declared.design_net.DesignNet.{DesignNet}
 use Rattle.fir_flatten.specs.declared.design_net.ModulePart.{ModulePart}
@@ -55,6 +58,7 @@ pub record IsPartOf (m : LeafModule) (p : ModulePart) : Type 0 where
   pub reads : (x : ℕ) → x < length m.leaves → RoleReadsBelow (length m.leaves) (net_role_at m x)
   pub texts : p.texts.items ≡ map (λ (l : LeafDeclared). path_text l.path) m.leaves
   pub driven : AreDriven (length m.leaves) m.body p.driven.items
+  pub array_texts : p.array_texts.items ≡ map (λ (a : LeafArray). path_text a.path) m.arrays
 
 -- so it is with the modules of these scenes, by their numbers
 pub record ArePartsOf (scenes : List Scene) (parts : List ModulePart) : Type 0 where
@@ -90,6 +94,7 @@ pub record AreCopiesOf (scenes : List Scene) (main : Scene) (c : LeafCircuit) (c
   pub from_first : first.first ≡ 0
   pub behind : AreBehind scenes (leafed_module main).port_leaves copies
   pub leaves : map (seen_behind []) c.leaves ≡ map (seen_behind []) (port_leaves (leafed_module main)) ++ flat_map (leaves_of_copy scenes) copies
+  pub arrays : map array_seen c.arrays ≡ flat_map (arrays_of_copy scenes) copies
   pub stand : (k : ModuleCopy) → In copies k → StandsIn scenes c (copy_seen k)
   pub given : (y : ℕ) → y < length c.leaves → IsGiven scenes main (map copy_seen copies) y
 
@@ -104,6 +109,13 @@ pub record IsLeafOf (c : LeafCircuit) (x : ℕ) (l : DesignLeaf) : Type 0 where
   pub held : type_seen l.holds ≡ held_in (as_module c) x
   pub driven : is_register (role_of c x) ≡ true → l.is_driven ≡ drives_any x c.body
 
+-- an array of the net beside that of the circuit
+pub record IsDesignArray (a : DesignArray) (m : LeafArray) : Type 0 where
+  pub path : a.path ≡ path_text m.path
+  pub held : type_seen a.holds ≡ m.holds
+  pub words : a.words ≡ m.words
+  pub writings : map writing_seen a.writings ≡ m.writings
+
 -- the net of the design of a circuit, of whose leaves so many are those of ports: each leaf has the role that the statements of all modules give it
 pub record IsNetOfDesign (c : LeafCircuit) (port_count : ℕ) (net : DesignNet) : Type 0 where
   pub ports : net.port_leaves ≡ port_count
@@ -113,6 +125,8 @@ pub record IsNetOfDesign (c : LeafCircuit) (port_count : ℕ) (net : DesignNet) 
   pub roles : (x : ℕ) (r : NetRole) → slice_get net.roles.items x ≡ Some r
       → RoleStands (net_types (as_module c)) net.nodes.items r (net_role_at (as_module c) x)
   pub before : ReadBefore 0 net.nodes.items
+  pub array_count : length net.arrays.items ≡ length c.arrays
+  pub arrays : (n : ℕ) (a : DesignArray) (m : LeafArray) → slice_get net.arrays.items n ≡ Some a → slice_get c.arrays n ≡ Some m → IsDesignArray a m
 
 -- so it is with the copies of a design, where the main module's ports are sources or sinks, and each register is driven in the whole where it is in its module
 abbrev pub IsDrivenAlike : List Scene → LeafCircuit → ModuleCopy → Type 0
@@ -120,18 +134,12 @@ IsDrivenAlike scenes c k =
     (x : ℕ) → x < length (inner_leaves (module_of_copy scenes k)) → is_register (role_of c (k.own + x)) ≡ true
     → drives_any (k.own + x) c.body ≡ drives_any ((module_of_copy scenes k).port_leaves + x) (module_of_copy scenes k).body
 
--- what is none of a memory's port
-abbrev pub IsOfNoMemory : Role → Type 0
-IsOfNoMemory (reading r) = ⊥
-IsOfNoMemory (pipe r clock under) = ⊥
-IsOfNoMemory _ = Unit {0}
-
--- the main module's inputs are inputs of the circuit; and there are no memories so far
+-- the main module's inputs are inputs of the circuit, and each module has types of its memories
 abbrev pub MakesDesign : List ModulePart → List ModuleCopy → DesignNet → Type 0
 MakesDesign parts copies net =
     (scenes : List Scene) (main : Scene) (c : LeafCircuit) → ArePartsOf scenes parts → AreCopiesOf scenes main c copies
     → ((k : ModuleCopy) → In copies k → IsDrivenAlike scenes c k)
     → ((x : ℕ) → x < (leafed_module main).port_leaves → is_register (role_of c x) ≡ false)
     → ((x : ℕ) → x < (leafed_module main).port_leaves → role_at (leafed_module main) x ≡ source → role_of c x ≡ source)
-    → ((x : ℕ) → x < length c.leaves → IsOfNoMemory (role_of c x))
+    → ((s : Scene) → In scenes s → AreMemoriesTyped (leafed_module s).leaves (leafed_module s).arrays)
     → IsNetOfDesign c (leafed_module main).port_leaves net

@@ -4,7 +4,10 @@ use Rattle.std.specs.Prelude.{◌≡◌, ℕ, List, map, Some, slice_get}
 use Rattle.fir_ast.specs.Circuits.{CircuitTree}
 use Rattle.fir_elaborate.specs.working.Elaborations.{IsElaborated}
 use Rattle.fir_meaning.specs.ModuleScenes.{Scene}
+use Rattle.fir_meaning.specs.Scenes.{IsSceneOf}
 use Rattle.fir_meaning.specs.working.Designs.{Design}
+use Rattle.fir_meaning.specs.working.LeafedModules.{leafed_module}
+use Rattle.fir_memory_types.specs.working.TypedMemories.{AreMemoriesTyped}
 use Rattle.fir_whens.specs.working.ModuleFaults.{AreAllDriven}
 use Rattle.fir_whens.specs.working.ModuleNets.{AreAllTyped}
 use Rattle.fir_flatten.specs.declared.design_parts.DesignParts.{DesignParts}
@@ -20,6 +23,10 @@ pub record HasDesign (c : CircuitTree) : Type 0 where
   pub number : ℕ
   pub number_is : number_of_main c ≡ Some number
   pub at : slice_get scenes number ≡ Some main
+
+-- each module of a circuit has types of its memories
+abbrev pub AreAllMemoriesTyped : CircuitTree → Type 0
+AreAllMemoriesTyped c = (k : ℕ) (s : Scene) → IsSceneOf c k s → AreMemoriesTyped (leafed_module s).leaves (leafed_module s).arrays
 
 pub record AreDesignParts (c : CircuitTree) (p : DesignParts) : Type 0 where
   pub design : HasDesign c

@@ -1,25 +1,28 @@
--- The flat net of a design: each leaf of the design's circuit has its path, its place, its type and its role, leaves of ports stand as ports, the words of the
--- state are those of the circuit, there are no arrays so far, and the net is whole. And which designs have one so far.
-use Rattle.std.specs.Prelude.{◌≡◌, ℕ, ◌<◌, ◌≤◌, [], length, Bool, true, false, ◌||◌, Option, Some, None, slice_get}
+-- The flat net of a design: each leaf of the design's circuit has its path, its place, its type and its role, leaves of ports stand as ports, each array has its
+-- path, its words and its writes, the words and the arrays of the state are those of the circuit, and the net is whole. And which designs have one.
+use Rattle.std.specs.Prelude.{◌≡◌, ℕ, ◌<◌, ◌≤◌, length, Bool, true, false, ◌||◌, Option, Some, None, slice_get}
 use Rattle.fir_base.specs.Lists.{Distinct}
 use Rattle.fir_meaning.specs.LeafTypes.{LeafType, a_clock, has_bits, number}
 use Rattle.fir_meaning.specs.working.LeafCircuits.{LeafCircuit, role_of}
-use Rattle.fir_meaning.specs.working.LeafModules.{Role, leaf_at, sink, source}
+use Rattle.fir_meaning.specs.LeafPaths.{path_text}
+use Rattle.fir_meaning.specs.working.LeafModules.{LeafArray, Role, leaf_at, sink, source}
+use Rattle.fir_leaf.specs.working.StateLaws.{IsArrayOf}
 use Rattle.fir_meaning.specs.working.LeafNames.{path_of_leaf, place_of_leaf}
 use Rattle.fir_meaning.specs.working.StateWalks.{is_state}
 use Rattle.fir_meaning.specs.working.UndrivenLeaves.{AreDriven}
 use Rattle.fir_leaf_types.specs.working.TypedModules.{IsModuleTyped, held_in}
-use Rattle.fir_lack.specs.working.TakenCircuits.{IsTakenRole}
+use Rattle.fir_memory_types.specs.working.TypedMemories.{AreMemoriesTyped}
 use Rattle.fir_source_faults.specs.working.NumberedTaking.{takes}
 use Rattle.fir_connect.specs.working.CircuitModules.{as_module}
 use Rattle.fir_connect.specs.working.NetRoles.{NetRole, computed, driven, net_role_at, net_types, register}
 use Rattle.fir_connect.specs.working.NetTerms.{NetTerm, leaf}
+use Rattle.fir_net.specs.declared.array.Array.{Array}
 use Rattle.fir_net.specs.declared.leaf.Leaf.{Leaf}
 use Rattle.fir_net.specs.declared.leaf.Role.{Role as FlatRole}
 use Rattle.fir_net.specs.declared.leaf.Role.TheVariants as role
 use Rattle.fir_net.specs.declared.net.FlatNet.{FlatNet}
 use Rattle.fir_net.specs.working.IsNet.{IsNet, is_port}
-use Rattle.fir_flat.specs.working.FlatCircuits.{IsRoleOf, NamesClock}
+use Rattle.fir_flat.specs.working.FlatCircuits.{IsArrayOf as IsArrayOfCircuit, IsRoleOf, NamesClock}
 use Rattle.fir_flat.specs.working.WholeRoles.{IsModuleWithin}
 
 -- a term names a leaf that holds a clock, or gives no clock
@@ -46,12 +49,12 @@ IsPortRole _ = ⊥
 abbrev pub IsWord : LeafCircuit → ℕ → Type 0
 IsWord c x = (is_state (role_of c x) ≡ true) × (has_bits (leaf_at c.leaves x).holds ≡ true)
 
--- a circuit of whose leaves so many are those of ports: it has types and is driven, it has only forms that are taken so far, and its clocks are clear
+-- a circuit of whose leaves so many are those of ports: it has types, also of its memories, and is driven, and its clocks are clear
 pub record IsPlainDesign (c : LeafCircuit) (ports : ℕ) : Type 0 where
   pub typed : IsModuleTyped (as_module c)
   pub within : IsModuleWithin (as_module c)
   pub driven : AreDriven (as_module c)
-  pub taken : (x : ℕ) → x < length c.leaves → IsTakenRole (role_of c x)
+  pub memories : AreMemoriesTyped c.leaves c.arrays
   pub clear : (x : ℕ) → x < length c.leaves → IsClear c (held_in (as_module c) x) (net_role_at (as_module c) x)
   pub room : ports ≤ length c.leaves
   pub port : (x : ℕ) → x < ports → IsPortRole (role_of c x)
@@ -60,6 +63,10 @@ pub record IsPlainDesign (c : LeafCircuit) (ports : ℕ) : Type 0 where
   pub words : (n x : ℕ) → slice_get c.words n ≡ Some x → (x < length c.leaves) × IsWord c x
   pub all_words : (x : ℕ) → x < length c.leaves → IsWord c x → (n : ℕ) × (slice_get c.words n ≡ Some x)
   pub once : Distinct c.words
+  -- the arrays of the state
+  pub arrays : (n x : ℕ) → slice_get c.array_order n ≡ Some x → IsArrayOf c x
+  pub all_arrays : (x : ℕ) → IsArrayOf c x → (n : ℕ) × (slice_get c.array_order n ≡ Some x)
+  pub arrays_once : Distinct c.array_order
 
 -- a clock is one bit wide
 abbrev pub HasWidth : Leaf → LeafType → Type 0
@@ -84,9 +91,15 @@ pub record IsFlatLeaf (c : LeafCircuit) (ports : ℕ) (net : FlatNet) (x : ℕ) 
   pub port : x < ports → is_port l.role ≡ true
   pub inner : ports ≤ x → is_port l.role ≡ false
 
+pub record IsFlatArray (net : FlatNet) (a : Array) (m : LeafArray) : Type 0 where
+  pub path : a.path ≡ path_text m.path
+  pub is : IsArrayOfCircuit net.nodes a m
+
 pub record IsFlatDesign (c : LeafCircuit) (ports : ℕ) (net : FlatNet) : Type 0 where
   pub count : length net.leaves ≡ length c.leaves
   pub each : (x : ℕ) (l : Leaf) → slice_get net.leaves x ≡ Some l → IsFlatLeaf c ports net x l
   pub state : net.state ≡ c.words
-  pub arrays : net.arrays ≡ []
+  pub array_count : length net.arrays ≡ length c.arrays
+  pub arrays : (n : ℕ) (a : Array) (m : LeafArray) → slice_get net.arrays n ≡ Some a → slice_get c.arrays n ≡ Some m → IsFlatArray net a m
+  pub array_order : net.array_order ≡ c.array_order
   pub whole : IsNet net

@@ -1,10 +1,11 @@
--- What becomes of the leaves and roles of a design in its flat net: reads are those of the kept nodes, behind which the choices of synchronous resets are put (FIRRTL
--- spec, "Registers"); what gives a clock leaf its clock is a leaf, or no clock.
+-- What becomes of the leaves and roles of a design in its flat net: reads are those of the kept nodes, behind which the choices of synchronous resets are put, and
+-- what enables the ports of memories (FIRRTL spec, "Registers", "Memories"); what gives a clock leaf its clock is a leaf, or no clock.
 use Rattle.std.specs.Prelude.{ℕ, suc, ◌+◌, List, [], ◌∷◌, ◌++◌, length, max, Bool, false, nat_lt, if◌then◌else◌, Option, Some, None}
 use Rattle.fir_bits.specs.declared.types.NumTy.{NumTy}
 use Rattle.fir_leaf_circuit.specs.declared.leaf.LeafType.{LeafType}
 use Rattle.fir_leaf_circuit.specs.declared.leaf.LeafType.TheVariants.{Clock, Number}
 use Rattle.fir_merge.specs.declared.bound.Bound.{Bound}
+use Rattle.fir_flat.specs.working.FlatCircuits.{is_new}
 use Rattle.fir_net.specs.declared.leaf.Leaf.{Leaf}
 use Rattle.fir_net.specs.declared.leaf.Reset.{Reset}
 use Rattle.fir_net.specs.declared.leaf.ResetKind.TheVariants.{Asynchronous}
@@ -18,6 +19,7 @@ use Rattle.fir_whens.specs.declared.net_role.NetReset.{NetReset}
 use Rattle.fir_whens.specs.declared.net_role.NetRole.{NetRole}
 use Rattle.fir_whens.specs.declared.net_role.NetRole.TheVariants as role
 use Rattle.fir_flatten.specs.declared.design_net.DesignLeaf.{DesignLeaf}
+use Rattle.fir_flatten.specs.working.ArrayPorts.{array_read, reading_nodes}
 use Rattle.fir_flatten.specs.working.KeptNodes.{moved}
 
 abbrev pub source_role : LeafType → Role
@@ -65,9 +67,12 @@ module _ (places : List ℕ) where
   choices_of_reset None next = []
   choices_of_reset (Some r) next = if r.is_async then [] else (choice_node r next ∷ [])
 
-  abbrev pub choices_of : NetRole → List Node
-  choices_of (role.Register clock reset next) = choices_of_reset reset next
-  choices_of _ = []
+  -- the nodes that a role adds, where so many stand before them
+  abbrev pub added_by : NetRole → ℕ → List Node
+  added_by (role.Register clock reset next) count = choices_of_reset reset next
+  added_by (role.Reading r) count = reading_nodes r count
+  added_by (role.Pipe r clock under) count = reading_nodes r count
+  added_by _ count = []
 
   -- what a register takes that no reset holds, if a statement drives it
   abbrev pub driven_next : Bool → Bound → Option Read
@@ -84,7 +89,9 @@ module _ (places : List ℕ) where
   flat_role_of is_port is_driven holds (role.Computed b) count = driven_role is_port holds b.read
   flat_role_of is_port is_driven holds (role.Register clock reset next) count =
       flat.Register (record { clock = clock_of clock.read; reset = reset_of reset; next = next_read is_driven count reset next })
-  flat_role_of is_port is_driven holds _ count = flat.Input
+  flat_role_of is_port is_driven holds (role.Reading r) count = flat.Reading (array_read r count)
+  flat_role_of is_port is_driven holds (role.Pipe r clock under) count =
+      flat.Pipe (record { clock = clock; read = array_read r count; is_new = is_new under })
 
   abbrev pub flat_leaf_of : DesignLeaf → Bool → NetRole → ℕ → Leaf
   flat_leaf_of l is_port r count = record {
@@ -98,9 +105,9 @@ module _ (places : List ℕ) where
   -- one by one, from the one of a number on, where the leaves below another number are those of ports
   abbrev pub flat_leaves_of : ℕ → ℕ → List DesignLeaf → List NetRole → ℕ → List Leaf
   flat_leaves_of ports x (l ∷ ls) (r ∷ rs) count =
-      flat_leaf_of l (nat_lt x ports) r count ∷ flat_leaves_of ports (suc x) ls rs (count + length (choices_of r))
+      flat_leaf_of l (nat_lt x ports) r count ∷ flat_leaves_of ports (suc x) ls rs (count + length (added_by r count))
   flat_leaves_of ports x _ _ count = []
 
-  abbrev pub choices_behind : List DesignLeaf → List NetRole → List Node
-  choices_behind (l ∷ ls) (r ∷ rs) = choices_of r ++ choices_behind ls rs
-  choices_behind _ _ = []
+  abbrev pub added_behind : List DesignLeaf → List NetRole → ℕ → List Node
+  added_behind (l ∷ ls) (r ∷ rs) count = added_by r count ++ added_behind ls rs (count + length (added_by r count))
+  added_behind _ _ count = []

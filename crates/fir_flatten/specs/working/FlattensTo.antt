@@ -1,5 +1,6 @@
 -- When a net is the flat net of a circuit: it is whole and has a Verilog text, it has the circuit's name, and whichever source tree stands below the circuit's main
--- module, the net has its ports, its state and its shape, and allows at every tick what the tree allows; its registers take values and are reset where those of the tree are;
+-- module, the net has its ports, its state and its shape, and allows at every tick what the tree allows; its registers take values and are reset where those of the
+-- tree are, and its pipes stand where those of the tree do;
 -- and a closed walk of dependence stands in the circuit where one stands in the net.
 use Rattle.std.specs.Prelude.{◌≡◌, ◌↔◌, ◌⊎◌, ℕ, List, Option, Some, IsSome, IsTrue, map, slice_get}
 use Rattle.fir_base.specs.Ticks.{Tick}
@@ -14,6 +15,7 @@ use Rattle.fir_meaning.specs.SourceCircuits.{PlacedLeaf, is_sink_role, ports_whe
 use Rattle.fir_meaning.specs.SourceDesigns.{SourceDesign}
 use Rattle.fir_meaning.specs.SourceOne.{One}
 use Rattle.fir_meaning.specs.LeafTypes.{has_bits}
+use Rattle.fir_net.specs.declared.array.Pipe.{Pipe}
 use Rattle.fir_net.specs.declared.leaf.Leaf.{Leaf}
 use Rattle.fir_net.specs.declared.leaf.Register.{Register}
 use Rattle.fir_net.specs.declared.leaf.Role.TheVariants as role
@@ -28,7 +30,7 @@ use Rattle.fir_net.specs.working.Settled.{Settled, outputs as net_outputs, shape
 use Rattle.fir_net.specs.working.Values.{leaf_width}
 use Rattle.fir_loop.specs.working.IsLoop.{IsLoop, ShowsLoop}
 use Rattle.fir_flatten.specs.SourceRows.{source_array_rows, source_rows, source_words}
-use Rattle.fir_flatten.specs.BlockWords.{IsClocked, IsTaking, is_reset_at_once}
+use Rattle.fir_flatten.specs.BlockWords.{IsClocked, TakesValue, is_pipe, is_reset_at_once}
 use Rattle.fir_flatten.specs.working.Words.{HasWords}
 
 -- the widths of the outputs, in their order
@@ -44,8 +46,13 @@ HasClock net k =
 -- that takes a value; and it has a clock where that has one
 pub record TakesAs (t : SourceDesign) (net : FlatNet) (p : PlacedLeaf) (r : Register) : Type 0 where
   pub reset : IsSome r.reset ↔ IsTrue (is_reset_at_once p.leaf.role)
-  pub takes : (IsSome r.reset ⊎ IsSome r.next) ↔ IsTaking t p
+  pub takes : (IsSome r.reset ⊎ IsSome r.next) ↔ TakesValue t p
   pub clock : HasClock net r.clock ↔ IsClocked t p p.leaf.role
+
+-- the pipe of a word of the net beside the word of the tree: it has a clock where that has one
+pub record PipesAs (t : SourceDesign) (net : FlatNet) (p : PlacedLeaf) (q : Pipe) : Type 0 where
+  pub is : IsTrue (is_pipe p.leaf.role)
+  pub clock : HasClock net q.clock ↔ IsClocked t p p.leaf.role
 
 pub record MeansSource (t : SourceDesign) (net : FlatNet) : Type 0 where
   pub ports : net_rows net ≡ source_rows t
@@ -60,6 +67,9 @@ pub record MeansSource (t : SourceDesign) (net : FlatNet) : Type 0 where
   pub taken :
       (n k : ℕ) (p : PlacedLeaf) (l : Leaf) (r : Register) → slice_get net.state n ≡ Some k → slice_get (state_words t) n ≡ Some p
       → slice_get net.leaves k ≡ Some l → l.role ≡ role.Register r → TakesAs t net p r
+  pub piped :
+      (n k : ℕ) (p : PlacedLeaf) (l : Leaf) (q : Pipe) → slice_get net.state n ≡ Some k → slice_get (state_words t) n ≡ Some p
+      → slice_get net.leaves k ≡ Some l → l.role ≡ role.Pipe q → PipesAs t net p q
 
 pub record FlattensTo (c : CircuitTree) (net : FlatNet) : Type 0 where
   pub whole : IsNet net

@@ -1,7 +1,8 @@
--- The nodes and the roles of a module's net over the numbers of the whole design.
+-- The nodes, the roles and the arrays of a module's net over the numbers of the whole design.
 use Rattle.std.specs.Prelude.{ℕ, ◌+◌, ◌-◌, ◌^◌, List, map, min, option_map}
 use Rattle.fir_meaning.specs.working.Numberings.{Numbering, number}
 use Rattle.fir_elaborate.specs.declared.elaborated.ModuleCopy.{ModuleCopy}
+use Rattle.fir_leaf_circuit.specs.declared.array.Writing.{Writing}
 use Rattle.fir_leaf_circuit.specs.declared.leaf.ReadingRole.{ReadingRole}
 use Rattle.fir_merge.specs.declared.bound.Bound.{Bound}
 use Rattle.fir_net.specs.declared.node.Node.{Node}
@@ -14,7 +15,7 @@ use Rattle.fir_whens.specs.declared.net_role.NetRole.TheVariants as role
 use Rattle.fir_flatten.specs.declared.offsets.Offsets.{Offsets}
 
 abbrev pub offsets_of : ModuleCopy → ℕ → ℕ → Offsets
-offsets_of k ports nodes = record { ports = ports; first = k.first; own = k.own; nodes = nodes }
+offsets_of k ports nodes = record { ports = ports; first = k.first; own = k.own; nodes = nodes; arrays = k.array }
 
 -- where the leaves stand
 abbrev pub numbering_of : Offsets → Numbering
@@ -26,6 +27,9 @@ saturated x = min x (2 ^ 64 - 1)
 
 abbrev pub leaf_moved : Offsets → ℕ → ℕ
 leaf_moved at x = saturated (number (numbering_of at) x)
+
+abbrev pub array_moved : Offsets → ℕ → ℕ
+array_moved at x = saturated (at.arrays + x)
 
 abbrev pub read_moved : Offsets → Read → Read
 read_moved at (read.Leaf x) = read.Leaf (leaf_moved at x)
@@ -47,13 +51,22 @@ reset_moved at r = record { is_async = r.is_async; condition = bound_moved at r.
 
 abbrev pub reading_moved : Offsets → ReadingRole → ReadingRole
 reading_moved at r = record {
-  array = r.array;
+  array = array_moved at r.array;
   address = leaf_moved at r.address;
   enable = leaf_moved at r.enable;
   mode = option_map (leaf_moved at) r.mode;
 }
 
--- arrays keep their numbers
+abbrev pub writing_moved : Offsets → Writing → Writing
+writing_moved at w = record {
+  address = leaf_moved at w.address;
+  enable = leaf_moved at w.enable;
+  mode = option_map (leaf_moved at) w.mode;
+  mask = leaf_moved at w.mask;
+  clock = leaf_moved at w.clock;
+  given = leaf_moved at w.given;
+}
+
 abbrev pub role_moved : Offsets → NetRole → NetRole
 role_moved at role.Source = role.Source
 role_moved at (role.Driven b) = role.Driven (bound_moved at b)

@@ -1,6 +1,6 @@
 -- On which leaves and nodes the value of a leaf or a node hangs within one tick.
 -- A node hangs on what it reads; a driven leaf on what drives it; a register with an asynchronous reset on the reset's condition and init; what is read of an
--- array on the address and on what enables it. An input and every other register hang on nothing.
+-- array on the address and on what enables it. An input, a pipe and every other register hang on nothing.
 use Rattle.std.specs.Prelude.{◌≡◌, ℕ, ◌<◌, List, [], ◌∷◌, length, slice_get, Option, Some, None}
 use Rattle.fir_net.specs.declared.reads.Read.{Read}
 use Rattle.fir_net.specs.declared.reads.Read.TheVariants as read
@@ -39,6 +39,7 @@ role_reads (role.Output r) = r ∷ []
 role_reads (role.Wire r) = r ∷ []
 role_reads (role.Register r) = reset_reads r.reset
 role_reads (role.Reading r) = r.address ∷ r.enable ∷ []
+role_reads (role.Pipe p) = []
 role_reads (role.ClockOutput c) = clock_reads c
 role_reads (role.ClockWire c) = clock_reads c
 

@@ -1,9 +1,9 @@
 -- Which nets are whole.
 -- Each node reads leaves and nodes before it and has the type of its operation; what drives a leaf is a value of the net and of the leaf's signedness,
 -- and what drives a clock leaf a clock leaf or none; a register is clocked by a clock leaf, and the condition of its reset is one bit; a clock is one bit
--- wide; the ports stand before the other leaves; all widths are at most 128; each register that has bits is a word of the state, once; what is read of an
--- array and written into it is of its width, and read or written under one bit; and each array that has bits stands in the state, once, all of them with at
--- most 4194304 words.
+-- wide; the ports stand before the other leaves; all widths are at most 128; each register and each pipe that has bits is a word of the state, once; what is
+-- read of an array and written into it is of the type of its words, and read or written at an address that is a UInt, under one bit; a pipe is clocked by a clock
+-- leaf; and each array that has bits stands in the state, once, all of them with at most 4194304 words.
 use Rattle.std.specs.Prelude.{◌≡◌, ℕ, ◌<◌, ◌≤◌, max, List, [], ◌∷◌, ◌++◌, length, map, slice_get, Bool, true, false, not, ◌&&◌, nat_eq, Option, Some, None, unwrap_or, option_map, Ok, MatchBool}
 use Rattle.std.specs.List.{AllByRecursion, sum_by}
 use Rattle.fir_base.specs.Lists.{Distinct}
@@ -15,6 +15,7 @@ use Rattle.fir_bits.specs.declared.types.NumTy.{NumTy}
 use Rattle.fir_net.specs.declared.array.Array.{Array}
 use Rattle.fir_net.specs.declared.array.ArrayRead.{ArrayRead}
 use Rattle.fir_net.specs.declared.array.ArrayWrite.{ArrayWrite}
+use Rattle.fir_net.specs.declared.array.Pipe.{Pipe}
 use Rattle.fir_net.specs.declared.reads.Read.{Read}
 use Rattle.fir_net.specs.declared.reads.Read.TheVariants as read
 use Rattle.fir_net.specs.declared.leaf.Reset.{Reset}
@@ -27,7 +28,6 @@ use Rattle.fir_net.specs.declared.node.Node.{Node}
 use Rattle.fir_net.specs.declared.node.Node.TheVariants as node
 use Rattle.fir_net.specs.declared.net.FlatNet.{FlatNet}
 use Rattle.fir_net.specs.working.Arrays.{words_of}
-use Rattle.fir_net.specs.working.Counted.{is_register}
 use Rattle.fir_net.specs.working.Values.{leaf_type}
 use Rattle.fir_net.specs.working.Settled.{is_clock}
 
@@ -97,9 +97,10 @@ abbrev pub CanBeReset : List Leaf → List Node → Bool → Option Reset → Ty
 CanBeReset leaves nodes signed None = Unit {0}
 CanBeReset leaves nodes signed (Some r) = IsReset leaves nodes signed r
 
--- an address, which has bits, and one bit that allows a read or a write there
+-- an address, which is a UInt that has bits, and one bit that allows a read or a write there
 pub record IsAddressed (leaves : List Leaf) (nodes : List Node) (at under : Read) : Type 0 where
   pub address : CanRead leaves nodes at
+  pub unsigned : (read_type leaves nodes at).signed ≡ false
   pub has_bits : 1 ≤ (read_type leaves nodes at).width
   pub enable : CanRead leaves nodes under
   pub has_one_bit : read_type leaves nodes under ≡ one_bit
@@ -111,6 +112,7 @@ IsRole leaves nodes signed width (role.Output r) = CanDrive leaves nodes signed 
 IsRole leaves nodes signed width (role.Wire r) = CanDrive leaves nodes signed r
 IsRole leaves nodes signed width (role.Register r) = IsClock leaves r.clock × CanBeReset leaves nodes signed r.reset × CanBeDriven leaves nodes signed r.next
 IsRole leaves nodes signed width (role.Reading r) = IsAddressed leaves nodes r.address r.enable
+IsRole leaves nodes signed width (role.Pipe p) = IsClock leaves p.clock × IsAddressed leaves nodes p.read.address p.read.enable
 IsRole leaves nodes signed width (role.ClockOutput c) = (width ≡ 1) × CanBeClock leaves c
 IsRole leaves nodes signed width (role.ClockWire c) = (width ≡ 1) × CanBeClock leaves c
 
@@ -122,6 +124,7 @@ abbrev pub is_port : Role → Bool
 is_port (role.Register r) = false
 is_port (role.Wire r) = false
 is_port (role.Reading r) = false
+is_port (role.Pipe p) = false
 is_port (role.ClockWire c) = false
 is_port _ = true
 
@@ -133,9 +136,15 @@ abbrev pub ArePortsFirst : List Leaf → Type 0
 ArePortsFirst [] = Unit {0}
 ArePortsFirst (l ∷ ls) = MatchBool (is_port l.role) (ArePortsFirst ls) (AreInside ls)
 
--- a register that has bits
+-- a register or a pipe
+abbrev pub is_state : Role → Bool
+is_state (role.Register r) = true
+is_state (role.Pipe p) = true
+is_state _ = false
+
+-- one that has bits
 abbrev pub is_word : Leaf → Bool
-is_word l = is_register l.role && not (nat_eq l.width 0)
+is_word l = is_state l.role && not (nat_eq l.width 0)
 
 -- the words of the state
 pub record IsState (leaves : List Leaf) (state : List ℕ) : Type 0 where
@@ -143,19 +152,21 @@ pub record IsState (leaves : List Leaf) (state : List ℕ) : Type 0 where
   pub all : (k : ℕ) (l : Leaf) → slice_get leaves k ≡ Some l → is_word l ≡ true → (n : ℕ) × (slice_get state n ≡ Some k)
   pub once : Distinct state
 
-pub record IsArrayWrite (leaves : List Leaf) (nodes : List Node) (w : ArrayWrite) : Type 0 where
+-- into an array of words of that type
+pub record IsArrayWrite (leaves : List Leaf) (nodes : List Node) (signed : Bool) (width : ℕ) (w : ArrayWrite) : Type 0 where
   pub clock : IsClock leaves w.clock
   pub addressed : IsAddressed leaves nodes w.address w.condition
   pub given : CanRead leaves nodes w.given
+  pub has_type : read_type leaves nodes w.given ≡ record { signed = signed; width = width }
 
 pub record IsArray (leaves : List Leaf) (nodes : List Node) (a : Array) : Type 0 where
   pub narrow : a.width ≤ 128
   pub has_words : 1 ≤ a.words
-  pub writes : AllByRecursion (IsArrayWrite leaves nodes) a.writes
+  pub writes : AllByRecursion (IsArrayWrite leaves nodes a.signed a.width) a.writes
 
--- the array is there, and has words of the width of what is read
-abbrev pub IsReadOf : List Array → ℕ → ArrayRead → Type 0
-IsReadOf arrays width r = (a : Array) × (slice_get arrays r.array ≡ Some a) × (a.width ≡ width)
+-- the array is there, and has words of the width and the signedness of what is read
+abbrev pub IsReadOf : List Array → Leaf → ArrayRead → Type 0
+IsReadOf arrays l r = (a : Array) × (slice_get arrays r.array ≡ Some a) × (a.width ≡ l.width) × (a.signed ≡ l.signed)
 
 -- the arrays of the state: those that have bits
 pub record IsArrayOrder (arrays : List Array) (order : List ℕ) : Type 0 where
@@ -169,6 +180,7 @@ pub record IsNet (net : FlatNet) : Type 0 where
   pub nodes : AreNodes net.leaves [] net.nodes
   pub state : IsState net.leaves net.state
   pub arrays : AllByRecursion (IsArray net.leaves net.nodes) net.arrays
-  pub readings : (k : ℕ) (l : Leaf) (r : ArrayRead) → slice_get net.leaves k ≡ Some l → l.role ≡ role.Reading r → IsReadOf net.arrays l.width r
+  pub readings : (k : ℕ) (l : Leaf) (r : ArrayRead) → slice_get net.leaves k ≡ Some l → l.role ≡ role.Reading r → IsReadOf net.arrays l r
+  pub pipes : (k : ℕ) (l : Leaf) (p : Pipe) → slice_get net.leaves k ≡ Some l → l.role ≡ role.Pipe p → IsReadOf net.arrays l p.read
   pub array_state : IsArrayOrder net.arrays net.array_order
   pub few_words : sum_by (words_of net.arrays) net.array_order ≤ 4194304

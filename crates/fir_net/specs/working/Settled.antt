@@ -1,12 +1,13 @@
 -- The values of a net's leaves while nothing changes.
--- An input has the tick's value, and a register its word of the state, or its init while an asynchronous reset is 1; what is read of an array is the word at
--- the address, and zero past the end or while it is not enabled; every other leaf has the value that drives it. A leaf takes a value fitted to its width, by the value's own sign. A clock input has its number, counted from 0 in port order, and every
+-- An input has the tick's value, a register its word of the state, or its init while an asynchronous reset is 1, and a pipe its word; what is read of an array is
+-- the word at the address, and zero past the end or while it is not enabled; every other leaf has the value that drives it. A leaf takes a value fitted to its width, by the value's own sign. A clock input has its number, counted from 0 in port order, and every
 -- other clock leaf is the clock that drives it, or none. All is guessed whole and then tested; no order of evaluation stands in the definition.
 -- Leaves are numbered from 0, the ports in their order and then the others.
 use Rattle.std.specs.Prelude.{◌≡◌, ℕ, ◌+◌, ◌^◌, ◌<◌, List, [], ◌∷◌, ◌++◌, map, length, slice_get, slice_index, nat_eq, nat_lt, ◌&&◌, if◌then◌else◌, Bool, true, false, Option, Some, None}
 use Rattle.fir_bits.specs.declared.values.Num.{Num}
 use Rattle.fir_base.specs.Ticks.{Tick, Shape, HasShape}
 use Rattle.fir_net.specs.declared.array.ArrayRead.{ArrayRead}
+use Rattle.fir_net.specs.declared.array.Pipe.{Pipe}
 use Rattle.fir_net.specs.declared.reads.Read.{Read}
 use Rattle.fir_net.specs.declared.leaf.ResetKind.{ResetKind}
 use Rattle.fir_net.specs.declared.leaf.ResetKind.TheVariants.{Synchronous, Asynchronous}
@@ -59,7 +60,7 @@ outputs net = numbers_by output_number 0 net.leaves
 abbrev pub clock_outputs : FlatNet → List ℕ
 clock_outputs net = numbers_by clock_output_number 0 net.leaves
 
--- the registers, whose words stand in front of the state
+-- the registers and pipes, whose words stand in front of the state
 abbrev pub registers : FlatNet → List ℕ
 registers net = net.state
 
@@ -123,6 +124,7 @@ pub record Settled (net : FlatNet) (state : List ℕ) (tick : Tick) (env : ℕ �
   pub fits : (k : ℕ) (l : Leaf) → slice_get net.leaves k ≡ Some l → is_clock l.role ≡ false → env k < 2 ^ l.width
   pub input_values : map env (inputs net) ≡ tick.inputs
   pub registers_show : (n k : ℕ) (l : Leaf) (r : Register) → slice_get (registers net) n ≡ Some k → slice_get net.leaves k ≡ Some l → l.role ≡ role.Register r → env k ≡ shown net env l.width r.reset (slice_index state n)
+  pub pipes_show : (n k : ℕ) (l : Leaf) (p : Pipe) → slice_get (registers net) n ≡ Some k → slice_get net.leaves k ≡ Some l → l.role ≡ role.Pipe p → env k ≡ slice_index state n
   pub arrays_read : (k : ℕ) (l : Leaf) (r : ArrayRead) → slice_get net.leaves k ≡ Some l → l.role ≡ role.Reading r → env k ≡ word_read net state env r
   pub driven : (k : ℕ) (l : Leaf) (r : Read) → slice_get net.leaves k ≡ Some l → driver l.role ≡ Some r → env k ≡ at_width (value_at net env r) l.width
   pub clock_inputs : (n : ℕ) (k : ℕ) → slice_get (clocks net) n ≡ Some k → clock k ≡ Some n

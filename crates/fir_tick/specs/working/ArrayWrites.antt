@@ -8,6 +8,7 @@ use Rattle.fir_work.specs.working.Tasks.{worked}
 use Rattle.fir_tick.specs.declared.write_plans.WritePlan.{WritePlan}
 use Rattle.fir_tick.specs.declared.plan.Plan.{Plan}
 use Rattle.fir_tick.specs.working.Passes.{register_value, vector_of, Gives}
+use Rattle.fir_tick.specs.working.PipeReads.{piped}
 
 -- whether something is written: the clock is named, the condition is 1, and there is a word at the address
 abbrev pub is_written : List ℕ → List ℕ → WritePlan → Bool
@@ -22,9 +23,12 @@ abbrev pub written : FlatNet → List ℕ → List ℕ → List WritePlan → Li
 written net ns named [] words = words
 written net ns named (p ∷ ps) words = written net ns named ps (one_written net ns named p words)
 
--- the words of the state after the edges of the named clocks: the registers take theirs, and then all writes are done
+-- the words of the state after the edges of the named clocks: the registers take theirs, then the pipes that take old words, then all writes are done, and then
+-- the pipes take theirs that take new words
 abbrev pub after_edges : FlatNet → List ℕ → List ℕ → Plan → List BitVector → List BitVector
-after_edges net ns named p words = written net ns named p.writes.items (map (register_value net ns named) p.registers.items ++ drop (length p.registers.items) words)
+after_edges net ns named p words =
+    piped ns named p.after_writes.items
+    (written net ns named p.writes.items (piped ns named p.before_writes.items (map (register_value net ns named) p.registers.items ++ drop (length p.registers.items) words)))
 
 -- it can be done where the state has so many words
 pub record CanWrite (net : FlatNet) (ns : List ℕ) (room : ℕ) (p : WritePlan) : Type 0 where

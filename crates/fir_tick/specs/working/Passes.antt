@@ -1,4 +1,4 @@
--- What the passes of a tick leave: numbers in the places of inputs and registers, outputs, and the words after the edges.
+-- What the passes of a tick leave: numbers in the places of inputs, registers and pipes, outputs, and the words after the edges.
 use Rattle.std.specs.Prelude.{ℕ, ◌<◌, ◌≤◌, ◌^◌, List, [], ◌∷◌, length, slice_set, nat_eq, if◌then◌else◌, Bool, Option, Some, None}
 use Rattle.fir_bits.specs.Values.{BitVector}
 use Rattle.fir_net.specs.declared.leaf.ResetKind.{ResetKind}

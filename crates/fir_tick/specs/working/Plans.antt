@@ -1,5 +1,5 @@
--- What a tick does with each leaf that has bits: the place of each among the leaves, and what a register takes at which clock.
-use Rattle.std.specs.Prelude.{◌≡◌, ℕ, ◌+◌, ◌≤◌, List, [], ◌∷◌, ◌++◌, nat_eq, if◌then◌else◌, slice_get, Option, Some, None}
+-- What a tick does with each leaf that has bits: the place of each among the leaves, and what a register or a pipe takes at which clock.
+use Rattle.std.specs.Prelude.{◌≡◌, ℕ, ◌+◌, ◌≤◌, List, [], ◌∷◌, ◌++◌, nat_eq, true, false, if◌then◌else◌, slice_get, Option, Some, None}
 use Rattle.std.specs.List.{AllZip}
 use Rattle.fir_net.specs.declared.reads.Read.{Read}
 use Rattle.fir_net.specs.declared.leaf.Reset.{Reset}
@@ -17,6 +17,7 @@ use Rattle.fir_tick.specs.declared.plan.OutputPlan.{OutputPlan}
 use Rattle.fir_tick.specs.declared.plan.RegisterPlan.{RegisterPlan}
 use Rattle.fir_tick.specs.declared.plan.ResetPlan.{ResetPlan}
 use Rattle.fir_tick.specs.declared.plan.Plan.{Plan}
+use Rattle.fir_tick.specs.working.PipePlans.{ArePipePlans}
 use Rattle.fir_tick.specs.working.Roots.{root_at, AreRoots}
 use Rattle.fir_tick.specs.working.WritePlans.{array_writes, IsWritePlan}
 
@@ -55,18 +56,31 @@ IsResetPlan net width None (Some p) = ⊥
 IsResetPlan net width (Some r) None = ⊥
 IsResetPlan net width (Some r) (Some p) = IsResetOf net width r p
 
--- the plan of the register whose leaf has that number
-pub record IsRegisterPlan (net : FlatNet) (roots : List (Option ℕ)) (p : RegisterPlan) (k : ℕ) : Type 0 where
-  pub leaf : Leaf
-  pub register : Register
-  pub at : slice_get net.leaves k ≡ Some leaf
-  pub kind : leaf.role ≡ role.Register register
-  pub place : p.leaf ≡ k
-  pub width : leaf.width ≡ p.width
-  pub narrow : p.width ≤ 128
+-- it takes what that register takes
+pub record TakesAs (net : FlatNet) (roots : List (Option ℕ)) (register : Register) (p : RegisterPlan) : Type 0 where
   pub clock : p.clock ≡ root_at roots register.clock
   pub reset : IsResetPlan net p.width register.reset p.reset
   pub next : IsNextPlan net p.width register.next p.next
+
+-- it takes nothing: what a pipe takes is read of the state
+pub record TakesNothing (p : RegisterPlan) : Type 0 where
+  pub clock : p.clock ≡ None
+  pub reset : p.reset ≡ None
+  pub next : p.next ≡ None
+
+abbrev pub TakesBy : FlatNet → List (Option ℕ) → RegisterPlan → Role → Type 0
+TakesBy net roots p (role.Register d) = TakesAs net roots d p
+TakesBy net roots p (role.Pipe q) = TakesNothing p
+TakesBy net roots p _ = ⊥
+
+-- the plan of the register or the pipe whose leaf has that number
+pub record IsRegisterPlan (net : FlatNet) (roots : List (Option ℕ)) (p : RegisterPlan) (k : ℕ) : Type 0 where
+  pub leaf : Leaf
+  pub at : slice_get net.leaves k ≡ Some leaf
+  pub place : p.leaf ≡ k
+  pub width : leaf.width ≡ p.width
+  pub narrow : p.width ≤ 128
+  pub takes : TakesBy net roots p leaf.role
 
 pub record IsPlan (net : FlatNet) (p : Plan) : Type 0 where
   pub inputs : p.inputs.items ≡ plans_by input_plan 0 net.leaves
@@ -74,4 +88,6 @@ pub record IsPlan (net : FlatNet) (p : Plan) : Type 0 where
   pub roots : List (Option ℕ)
   pub are_roots : AreRoots net roots
   pub registers : AllZip (IsRegisterPlan net roots) p.registers.items (registers net)
+  pub before_writes : ArePipePlans net roots false 0 net.state p.before_writes.items
   pub writes : AllZip (IsWritePlan net roots) p.writes.items (array_writes net)
+  pub after_writes : ArePipePlans net roots true 0 net.state p.after_writes.items

@@ -20,7 +20,7 @@ abbrev pub is_clock : Role → Bool
 is_clock role.Clock = true
 is_clock _ = false
 
--- the word of the register whose leaf has that number
+-- the word of the register or the pipe whose leaf has that number
 abbrev pub state_word : FlatNet → List (Option (List ℕ)) → ℕ → StateWord
 state_word net names k = record { name = unwrap_or (name_at names k) []; width = leaf_width net.leaves k; depth = None }
 

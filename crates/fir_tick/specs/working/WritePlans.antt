@@ -1,5 +1,5 @@
 -- What a tick does with each write of an array: where it looks, what it gives, and which clock it follows.
-use Rattle.std.specs.Prelude.{◌≡◌, ℕ, ◌≤◌, List, [], map, flat_map, slice_get, Option, Some, None}
+use Rattle.std.specs.Prelude.{◌≡◌, ℕ, ◌≤◌, List, [], map, flat_map, Bool, slice_get, Option, Some, None}
 use Rattle.fir_net.specs.declared.array.Array.{Array}
 use Rattle.fir_net.specs.declared.array.ArrayWrite.{ArrayWrite}
 use Rattle.fir_net.specs.declared.net.FlatNet.{FlatNet}
@@ -33,7 +33,8 @@ array_writes net = flat_map (writes_of net) net.array_order
 
 -- the plan of a write of an array that stands there, whose words have that width
 pub record IsWriteFor (net : FlatNet) (roots : List (Option ℕ)) (at : ArraySpan) (wide : ℕ) (w : ArrayWrite) (p : WritePlan) : Type 0 where
-  pub can : IsArrayWrite net.leaves net.nodes w
+  pub signed : Bool
+  pub can : IsArrayWrite net.leaves net.nodes signed wide w
   pub clock : p.clock ≡ root_at roots w.clock
   pub condition : p.condition ≡ place net w.condition
   pub address : p.address ≡ place net w.address

@@ -14,7 +14,7 @@ use Rattle.ver_build.specs.declared.places.Places.{Places}
 use Rattle.ver_build.specs.declared.right_sides.Inner.{Inner}
 use Rattle.ver_build.specs.working.Operands.{atom_at}
 use Rattle.ver_build.specs.working.ArrayTexts.{guard_inners, write_condition}
-use Rattle.ver_build.specs.working.Places.{along_writes, array_writes, clock_in, guard_at, held_of, read_width}
+use Rattle.ver_build.specs.working.Places.{along_writes, clock_in, guard_at, held_of, read_width}
 
 abbrev pub tree_array : Option Array → Option (List ℕ) → List TreeArray
 tree_array (Some a) (Some name) = record { width = a.width; last = a.words - 1; name = name } ∷ []

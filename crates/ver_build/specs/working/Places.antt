@@ -78,6 +78,7 @@ placed leaves nodes readings name k signed w (role.Output r) = place.Value (fit 
 placed leaves nodes readings name k signed w (role.Wire r) = place.Value (fit w (held_in leaves nodes r))
 placed leaves nodes readings name k signed w (role.Register r) = place.Value (own_held signed w name)
 placed leaves nodes readings name k signed w (role.Reading r) = place.Value (node_at readings k).held
+placed leaves nodes readings name k signed w (role.Pipe p) = place.Value no_bits
 placed leaves nodes readings name k signed w (role.ClockOutput c) = place.Clock (driven_clock_in leaves c)
 placed leaves nodes readings name k signed w (role.ClockWire c) = place.Clock (driven_clock_in leaves c)
 

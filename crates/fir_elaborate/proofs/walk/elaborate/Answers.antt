@@ -15,11 +15,11 @@ loop-preserved c = λ views d viewed lt design.
     let next = c.in-Some.next in
     let came : reverse walk.pending.items ≡ next ∷ reverse rest = ap reverse c.in-Some.ensures.items ∙ reverse-append rest (next ∷ []) in
     c.in_ok-take-in-Some.ensures views main d viewed
-    (subst (λ ps. Finds views main d walk.found ps walk.free) came (c.loop.invariant views d viewed lt design))
+    (subst (λ ps. Finds views main d walk.found ps walk.free walk.free_array) came (c.loop.invariant views d viewed lt design))
 
 pub returns-in-None : goal.returns-in-None
 returns-in-None c = λ views d viewed lt design.
     let walk = c.loop.walk in
     let none : walk.pending.items ≡ [] = nil_from_length walk.pending.items (sym walk.pending.ok.0 ∙ c.in-None.ensures.cases.0) in
-    ended views c.args.main d walk.found walk.free
-    (subst (λ ps. Finds views c.args.main d walk.found (reverse ps) walk.free) none (c.loop.invariant views d viewed lt design))
+    ended views c.args.main d walk.found walk.free walk.free_array
+    (subst (λ ps. Finds views c.args.main d walk.found (reverse ps) walk.free walk.free_array) none (c.loop.invariant views d viewed lt design))

@@ -40,4 +40,5 @@ returns c = λ s scene.
       driven =
           subst (λ n. AreDriven n (leafed_module s).body flags) many
           (subst (λ (b : LeafBlock). AreDriven c.len.result b flags) body c.in_ok-driven_leaves.ensures);
+      array_texts = c.in_ok-array_texts.ensures s scene;
     }

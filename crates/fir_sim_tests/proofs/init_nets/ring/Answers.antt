@@ -7,7 +7,7 @@ use Rattle.fir_net.specs.declared.leaf.Role.TheVariants as role
 use Rattle.fir_net.specs.declared.leaf.Leaf.{Leaf}
 use Rattle.fir_net.specs.declared.net.FlatNet.{FlatNet}
 use Rattle.fir_net.specs.working.IsNet.{IsNet}
-use Rattle.fir_sim_tests.proofs.TestArrays.{no_arrays, readings_of}
+use Rattle.fir_sim_tests.proofs.TestArrays.{no_arrays, pipes_of, readings_of}
 use Rattle.fir_sim_tests.proofs.TestLeaves.{leaf, register_on}
 use Rattle.fir_sim_tests.proofs.TestStates.{state_of}
 use Rattle.fir_sim_tests.proofs.init_nets.ring.Goals as goal
@@ -35,6 +35,7 @@ whole = record {
   state = state_of net.leaves;
   arrays = tt;
   readings = readings_of [] net.leaves (tt, (tt, (tt, (tt, (tt, tt)))));
+  pipes = pipes_of [] net.leaves (tt, (tt, (tt, (tt, (tt, tt)))));
   array_state = no_arrays;
   few_words = lit≤ tt;
 }

@@ -10,7 +10,7 @@ use Rattle.fir_net.specs.declared.leaf.Leaf.{Leaf}
 use Rattle.fir_net.specs.declared.node.Node.TheVariants as node
 use Rattle.fir_net.specs.declared.net.FlatNet.{FlatNet}
 use Rattle.fir_net.specs.working.IsNet.{IsNet}
-use Rattle.fir_sim_tests.proofs.TestArrays.{no_arrays, readings_of}
+use Rattle.fir_sim_tests.proofs.TestArrays.{no_arrays, pipes_of, readings_of}
 use Rattle.fir_sim_tests.proofs.TestLeaves.{leaf}
 use Rattle.fir_sim_tests.proofs.TestStates.{state_of}
 use Rattle.fir_sim_tests.proofs.nets.resets.Goals as goal
@@ -60,6 +60,7 @@ whole = record {
   state = state_of net.leaves;
   arrays = tt;
   readings = readings_of [] net.leaves (tt, (tt, (tt, (tt, (tt, (tt, (tt, (tt, (tt, (tt, (tt, tt)))))))))));
+  pipes = pipes_of [] net.leaves (tt, (tt, (tt, (tt, (tt, (tt, (tt, (tt, (tt, (tt, (tt, tt)))))))))));
   array_state = no_arrays;
   few_words = lit≤ tt;
 }

@@ -2,6 +2,7 @@ use Rattle.std.proofs.Common.{ℕ, ◌≤◌, List, [], ◌∷◌, ◌++◌, map
 use Rattle.std.specs.List.{AllZip}
 use Rattle.std.proofs.lemmas.List.{map_push, take_all}
 use Rattle.std.proofs.lemmas.Option.{get_or_from_slice_get}
+use Rattle.fir_net.specs.working.IsNet.{IsArrayWrite}
 use Rattle.fir_work.specs.working.Tasks.{IsFitTask}
 use Rattle.fir_tick.specs.declared.write_plans.WritePlan.{WritePlan}
 use Rattle.fir_tick.specs.working.ArraySpans.{span_of}
@@ -24,7 +25,8 @@ loop-write-preserved c =
     let e = c.write_plan.ensures in
     let wide = array_width net k c.requires.there c.as_slice.result.now c.as_slice.ensures array c.index-as_slice-number.is in
     let plan : R p (write_of k write) = record {
-      can = e.can;
+      signed = e.signed;
+      can = subst (λ (w : ℕ). IsArrayWrite net.leaves net.nodes e.signed w write) (sym wide) e.can;
       clock = e.clock;
       condition = e.condition;
       address = e.address;

@@ -1,6 +1,7 @@
-use Rattle.std.proofs.Common.{◌≡◌, ◌++◌, ap, ap₂, length, refl, reverse, ◌∙◌}
+use Rattle.std.proofs.Common.{◌++◌, ap, ap₂, length, map, refl, reverse, ◌∙◌}
 use Rattle.std.specs.Prelude.{option_map}
 use Rattle.std.proofs.lemmas.Option.{slice_get-map, slice_get_read}
+use Rattle.fir_leaf_circuit.specs.declared.array.LeafArray.{LeafArray}
 use Rattle.fir_elaborate.specs.declared.numbers.Numbers.{Numbers}
 use Rattle.fir_elaborate.specs.working.Walks.{parts}
 use Rattle.fir_elaborate.proofs.EnteredCopies.{enters}
@@ -28,12 +29,17 @@ returns c = λ views main d viewed finds.
     let ns_there =
     slice_get-map (λ ns. ns.items) names number
     ∙ ap (option_map (λ ns. ns.items)) (slice_get_read names (length names) number ns refl ns_got.3.0 ns_got.1) in
-    let at : Numbers = record { module_number = number; ports = part.port_leaves; first = first; own = old.free } in
-    let put : c.push_parts.new.pending.items ≡ old.pending.items ++ reverse (parts at c.len.result c.deref.result.now prefix c.deref-2.result.now) =
-    c.in_ok-push_parts.ensures in
-    enters views number first old.free prefix part is.items ns.items (c.requires number part is.items part_there is_there)
-    (viewed.each number part ns.items part_there ns_there) old.pending.items c.push_parts.new.pending.items at c.len.result c.in_ok-free.free refl
+    let at : Numbers =
+    record { module_number = number; ports = part.port_leaves; first = first; own = old.free; array = old.free_array } in
+    enters views number first old.free old.free_array prefix part is.items ns.items (c.requires number part is.items part_there is_there)
+    (viewed.each number part ns.items part_there ns_there) old.pending.items c.push_parts.new.pending.items at c.len.result c.in_ok-free.free
+    c.in_ok-free_array.free_array refl
     (c.len.ensures ∙ part.leaves.ok.0)
-    (put
-    ∙ ap₂ (λ x y. old.pending.items ++ reverse (parts at c.len.result x prefix y)) c.deref.ensures.value c.deref-2.ensures.value)
-    c.in_ok-free.ensures main d old.found _ c.in_ok-push.ensures.items refl finds
+    (c.in_ok-push_parts.ensures
+    ∙ ap
+    (λ x. old.pending.items
+    ++ reverse (parts at c.len.result (map (λ (a : LeafArray). a.declaration) x) c.deref-2.result.now prefix c.deref-3.result.now))
+    c.deref.ensures.value
+    ∙ ap₂ (λ x y. old.pending.items ++ reverse (parts at c.len.result (map (λ (a : LeafArray). a.declaration) part.arrays.items) x prefix y))
+    c.deref-2.ensures.value c.deref-3.ensures.value)
+    c.in_ok-free.ensures c.in_ok-free_array.ensures main d old.found _ c.in_ok-push.ensures.items refl refl finds

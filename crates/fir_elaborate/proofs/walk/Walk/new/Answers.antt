@@ -12,4 +12,4 @@ returns c = λ names views d viewed lt design.
     let got = slice_get_read modules (length modules) main part refl found.3.0 found.1 in
     let seen = viewed_at views modules names viewed main part lt got in
     rw (c.in_ok-push.ensures.items, c.new-pending.ensures.items, c.from_vec.ensures, c.new.ensures.items)
-    (begun views main part seen.0 _ lt seen.1 c.new-2.ensures.items c.new-3.ensures.items d design)
+    (begun views main part seen.0 _ lt seen.1 c.new-2.ensures.items c.new-3.ensures.items c.new-4.ensures.items d design)

@@ -1,4 +1,4 @@
-use Rattle.std.proofs.Common.{ℕ, List, Option, map, sym, subst}
+use Rattle.std.proofs.Common.{ℕ, List, Option, map, true, false, sym, subst}
 use Rattle.fir_base.specs.Ticks.{Tick, FitEach}
 use Rattle.fir_net.specs.working.Allows.{Allows}
 use Rattle.fir_net.specs.working.Settled.{clock_outputs, shape}
@@ -9,7 +9,7 @@ use Rattle.fir_tick.specs.working.Steps.{IsStepped}
 use Rattle.fir_tick.proofs.Fits.{clocks_rise, fit_count}
 use Rattle.fir_sim.proofs.PlanFacts.{input_widths}
 use Rattle.fir_sim.proofs.Ticking.{state_room, still_running, allows}
-use Rattle.fir_sim.proofs.InTurn.{placed0, within1, held2, fits2, shown3, room3, can4, writes4, room4, whole4, ticked}
+use Rattle.fir_sim.proofs.InTurn.{placed0, within1, held2, fits2, shown3, room3, can4, pipes4, writes4, room4, whole4, ticked}
 use Rattle.fir_sim.proofs.sim.Sim.step.Goals as goal
 
 pub put_state-requires-clause-within : goal.put_state-requires-clause-within
@@ -117,6 +117,28 @@ take_edges-requires-clause-can c =
     let tick : Tick = record { inputs = c.args.inputs.now; clocks = c.args.clocks.now } in
     let is_tick : IsTickOf net tick = subst (λ (s : SimView). IsTickOf s.net tick) (sym c.self.view_is) c.requires in
     can4 net steps p tick is_tick v0 run c.put_state.new.self c.put_state.ensures.numbers c.put_state.ensures.others c.put_inputs.new.self c.put_inputs.ensures.numbers c.put_inputs.ensures.others c.settle.new.self c.settle.ensures.settled c.settle.ensures.others c.show_outputs.new.self c.show_outputs.ensures.others c.has_its_type.ensures c.nodes_have_their_types.ensures
+
+pub take_edges-requires-clause-before_writes : goal.take_edges-requires-clause-before_writes
+take_edges-requires-clause-before_writes c =
+    let net = c.self.inside.net in
+    let steps = c.self.inside.steps.items in
+    let p = c.self.inside.plan in
+    let v0 = c.self.inside.values in
+    let run = c.self.invariant in
+    let tick : Tick = record { inputs = c.args.inputs.now; clocks = c.args.clocks.now } in
+    let is_tick : IsTickOf net tick = subst (λ (s : SimView). IsTickOf s.net tick) (sym c.self.view_is) c.requires in
+    pipes4 net steps p tick is_tick v0 run c.put_state.new.self c.put_state.ensures.numbers c.put_state.ensures.others c.put_inputs.new.self c.put_inputs.ensures.numbers c.put_inputs.ensures.others c.settle.new.self c.settle.ensures.settled c.settle.ensures.others c.show_outputs.new.self c.show_outputs.ensures.others false p.before_writes.items run.plan.before_writes
+
+pub take_edges-requires-clause-after_writes : goal.take_edges-requires-clause-after_writes
+take_edges-requires-clause-after_writes c =
+    let net = c.self.inside.net in
+    let steps = c.self.inside.steps.items in
+    let p = c.self.inside.plan in
+    let v0 = c.self.inside.values in
+    let run = c.self.invariant in
+    let tick : Tick = record { inputs = c.args.inputs.now; clocks = c.args.clocks.now } in
+    let is_tick : IsTickOf net tick = subst (λ (s : SimView). IsTickOf s.net tick) (sym c.self.view_is) c.requires in
+    pipes4 net steps p tick is_tick v0 run c.put_state.new.self c.put_state.ensures.numbers c.put_state.ensures.others c.put_inputs.new.self c.put_inputs.ensures.numbers c.put_inputs.ensures.others c.settle.new.self c.settle.ensures.settled c.settle.ensures.others c.show_outputs.new.self c.show_outputs.ensures.others true p.after_writes.items run.plan.after_writes
 
 pub take_edges-requires-clause-writes : goal.take_edges-requires-clause-writes
 take_edges-requires-clause-writes c =

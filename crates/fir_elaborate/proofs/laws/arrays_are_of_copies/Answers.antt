@@ -1,0 +1,5 @@
+use Rattle.fir_elaborate.proofs.CopyArrays.{arrays_of_copies}
+use Rattle.fir_elaborate.proofs.laws.arrays_are_of_copies.Goals as goal
+
+pub returns : goal.returns
+returns c = arrays_of_copies

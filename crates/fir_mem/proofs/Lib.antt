@@ -1,0 +1,13 @@
+pub mod Growth
+pub mod Building
+pub mod Clocked
+pub mod Steps
+pub mod Lists
+pub mod Lowered
+pub mod SameValues
+pub mod Clocks
+pub mod Truths
+pub mod Choices
+pub mod Made
+pub mod Meaning
+pub mod LoweredNets

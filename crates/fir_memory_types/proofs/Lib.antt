@@ -1,0 +1,12 @@
+pub mod MemoryVisits
+pub mod VisitedModules
+pub mod ArrayPlaces
+pub mod MemoryHolds
+pub mod PortsTyped
+pub mod PortClocks
+pub mod LeafNumbers
+pub mod FineMemories
+pub mod VisitsTyped
+pub mod MemoriesTyped
+pub mod ClocksOfMemories
+pub mod ArraysInOrder
