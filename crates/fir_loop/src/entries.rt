@@ -23,7 +23,7 @@ impl Model for Order {
 
 impl Order {
     /// The order in which these stand.
-    pub(crate) fn from_vec(entries: Vec<Read>) -> Order
+    pub fn from_vec(entries: Vec<Read>) -> Order
         ensures { result ≡ entries.items }
     {
         Order {

@@ -1,4 +1,4 @@
-//! The names of ports and registers.
+//! The names of ports, and of registers and pipes.
 
 ghost use Rattle.std.specs.Prelude.{◌≡◌, [], IfOk, OnOk, length, not, ◌&&◌, nat_eq};
 ghost use Rattle.std.specs.BTreeSet.{IsEmpty};

@@ -1,5 +1,5 @@
-//! The names of a net in the emitted text (IEEE 1364-2005, 3.7): its ports and registers and then its arrays get theirs
-//! from their paths (`leaf_names`, `array_names`), no two the same and none reserved, and inner nets the next free ones
+//! The names of a net in the emitted text (IEEE 1364-2005, 3.7): its ports and the words of its state, and then its arrays,
+//! get theirs from their paths (`leaf_names`, `array_names`), no two the same and none reserved, and inner nets the next free ones
 //! behind them (`numbered`).
 //! `specs/Names` has the rule, and `IsTable` what a table of them holds.
 #![tactic(auto)]

@@ -1,0 +1,11 @@
+pub mod Roles
+pub mod Ports
+pub mod Arrays
+pub mod Shapes
+pub mod SettledBeside
+pub mod NextBeside
+pub mod AgreeingValues
+pub mod AgreeingNext
+pub mod Allowed
+pub mod Written
+pub mod Equivalent
