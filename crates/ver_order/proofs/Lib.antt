@@ -1,0 +1,15 @@
+pub mod Elements
+pub mod StepsAtRest
+pub mod RestValues
+pub mod Rounds
+pub mod FittingSteps
+pub mod Shown
+pub mod LeastTurns
+pub mod InTurn
+pub mod WritesByName
+pub mod OneWriter
+pub mod BlockWrites
+pub mod Edges
+pub mod StepRows
+pub mod EdgeRows
+pub mod TurnRows
