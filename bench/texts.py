@@ -163,16 +163,16 @@ def instances_of_1000_registers(count):
 # Nodes, registers and ports
 
 def chain(count):
-    """So many nodes, each of the one before."""
+    """So many nodes, each of the one before, none of which is folded away."""
     lines, last = [], "a"
     for i in range(count):
-        lines.append(f"    node n{i} = not({last})\n")
+        lines.append(f"    node n{i} = xor({last}, UInt<4>(5))\n")
         last = f"n{i}"
     return HEAD + "".join(lines) + f"    o <= {last}\n"
 
 
 def chain_of_nodes(size):
-    return chain((size - 2000) // 33)
+    return chain((size - 2000) // 45)
 
 
 def connects(size):

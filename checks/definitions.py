@@ -48,7 +48,7 @@ PURPOSES = {
     "fir_flatten": "The rows of a circuit, and which of its registers take values.",
     "ver_build": "How the tree that is written is named and arranged.",
     "fir_outcome": "What each status says of the text, of a trace, and of both outputs.",
-    "fir_cli": "What the words ask for, and what is said of each command.",
+    "fir_words": "What the words ask for, as clap reads them, and what is said of each command.",
 }
 
 # What nothing reads any more in a crate that stands below nearly all others, each of which would be

@@ -1,3 +1,2 @@
 -- What no clause of `run` reads: views of the code, its tables and its walks.
-pub mod Commanded
 pub mod Endings

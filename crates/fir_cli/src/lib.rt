@@ -1,12 +1,9 @@
-//! The command line: what its words ask for (`command`), how much is read of a file (`limit`), and the lines of the error
-//! output (`messages`).
+//! What all commands share: how much is read of a file (`limit`), and the lines of the error output (`messages`).
 #![tactic(auto)]
 
-mod command;
 mod limit;
 mod messages;
 
-pub use command::{Command, Simulation, command_of};
 pub use limit::LIMIT;
 pub use messages::{
     MEMORY_LINE, UNWRITTEN_LINE, USAGE_LINE, say, say_bad_line, say_fault, say_unread,

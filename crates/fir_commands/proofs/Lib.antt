@@ -1,5 +1,5 @@
 pub mod Refused
 pub mod TextEnded
-pub mod EmitComplete
+pub mod TextsComplete
 pub mod SimulationEnded
 pub mod TraceEnded

@@ -17,7 +17,7 @@ use Rattle.trace_text.specs.Shapes.{TraceShape}
 use Rattle.trace_text.specs.RunLines.{run_text}
 use Rattle.fir_outcome.specs.declared.status.Status.{Status}
 use Rattle.fir_outcome.specs.declared.status.Status.TheVariants.{Done, Refused, Usage, Unread, Unwritten, NoMemory, BadTrace, TooLong}
-use Rattle.fir_cli.specs.Command.{Simulated}
+use Rattle.fir_words.specs.Commands.{Simulated}
 use Rattle.fir_outcome.specs.Messages.{unread_line, too_long_line, memory_line}
 use Rattle.fir_outcome.specs.Refusals.{Refuses}
 use Rattle.fir_outcome.specs.Outside.{IsRead, Outside, outside, limit, Kept}

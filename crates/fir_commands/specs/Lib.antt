@@ -1,5 +1,6 @@
 pub mod TextCommands
 pub mod TextAnswers
 pub mod Emit
+pub mod Check
 pub mod Simulates
 pub mod working

@@ -5,7 +5,7 @@ use Rattle.fir_io.specs.Ports.{Rose, AtLeast, Grew}
 use Rattle.fir_ast.specs.Circuits.{CircuitTree}
 use Rattle.fir_outcome.specs.declared.status.Status.{Status}
 use Rattle.fir_outcome.specs.declared.status.Status.TheVariants as status
-use Rattle.fir_cli.specs.Command.{Simulated}
+use Rattle.fir_words.specs.Commands.{Simulated}
 use Rattle.fir_outcome.specs.Messages.{unread_line, too_long_line, memory_line}
 use Rattle.fir_outcome.specs.Emits.{Takes}
 use Rattle.fir_outcome.specs.Refusals.{Refuses}

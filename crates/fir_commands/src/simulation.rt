@@ -7,17 +7,16 @@ ghost use Rattle.fir_net.specs.working.Settled.{shape as shape_of_net};
 ghost use Rattle.trace_text.specs.Shapes.{plain};
 ghost use Rattle.fir_outcome.specs.Outside.{outside};
 ghost use Rattle.fir_commands.specs.Simulates.{Simulates};
-ghost use Rattle.fir_cli.specs.working.Commanded.{simulated};
+ghost use Rattle.fir_words.specs.working.Commanded.{simulated};
 ghost use Rattle.fir_commands.specs.working.SimulationEndings.{FinishSaid, OfText, OfNet, OfTrace};
 
 use fir_base::Refused;
-use fir_cli::{
-    LIMIT, MEMORY_LINE, Simulation, UNWRITTEN_LINE, say, say_bad_line, say_fault, say_unread,
-};
+use fir_cli::{LIMIT, MEMORY_LINE, UNWRITTEN_LINE, say, say_bad_line, say_fault, say_unread};
 use fir_compile::{Compiled, net_of};
 use fir_io::{Files, Sink};
 use fir_outcome::Status;
 use fir_runner::{Finish, Runner, fronts_begin, put_lines};
+use fir_words::Simulation;
 use std::alloc::Global;
 use trace_text::Shape;
 

@@ -17,7 +17,7 @@ use Rattle.fir_net.specs.working.One.{One as NetOne}
 use Rattle.fir_net.specs.working.Settled.{Settled, clock_driver, clock_number, is_clock, shape}
 use Rattle.fir_net.proofs.LeafEquations.{driven_at}
 use Rattle.fir_net.proofs.NumberedLeaves.{among, clocks_own}
-use Rattle.fir_flatten.specs.working.FlattensTo.{HasClock}
+use Rattle.fir_equivalence.specs.working.IsEquivalent.{HasClock}
 use Rattle.ver_build.specs.working.BlockRegisters.{EndsAtInput, handed_on, input}
 
 -- a state and a tick of each shape: all values are 0, and no clock rises

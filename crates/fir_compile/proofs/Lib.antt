@@ -1,6 +1,8 @@
 pub mod ChainGroups
 pub mod NetPasses
 pub mod ChainFaults
+pub mod EquivalentNets
+pub mod CountedTexts
 pub mod ClockEnds
 pub mod WordBlocks
 pub mod KeptShapes

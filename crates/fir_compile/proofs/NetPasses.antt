@@ -22,8 +22,8 @@ use Rattle.fir_net.specs.declared.reads.Read.{Read}
 use Rattle.fir_loop.specs.working.IsLoop.{ShowsLoop}
 use Rattle.fir_loop.specs.working.Orders.{IsOrdered}
 use Rattle.fir_flatten.specs.working.FlatFaults.{ShowsNone, TellsClock, TellsFirst, TellsInit, TellsMemory}
-use Rattle.fir_flatten.specs.working.FlattensTo.{FlattensTo}
-use Rattle.fir_compile.specs.declared.compiled.Compiled.{Compiled}
+use Rattle.fir_flatten.specs.working.FlattensTo.{FlattensTo, IsFlatNetOf}
+use Rattle.fir_compile.specs.declared.ordered.OrderedNet.{OrderedNet}
 use Rattle.fir_compile.proofs.ChainGroups.{both_clear, one_clear}
 
 module _ (c : CircuitTree) where
@@ -74,10 +74,10 @@ module _ (c : CircuitTree) where
       (λ k low high. absurd (omega (arith, low, high)))
 
 -- what each of them gives is a stage of the same circuit
-pub keeps_flat : (t : Circuit) (net made : FlatNet) → made ≡ net → ShowsNone (circuit_of t) → FlattensTo (circuit_of t) net
-    → Passes IsTreeOf FlattensTo (IsClearOf 10 12) t made
+pub keeps_flat : (t : Circuit) (net made : FlatNet) → made ≡ net → ShowsNone (circuit_of t) → IsFlatNetOf (circuit_of t) net
+    → Passes IsTreeOf IsFlatNetOf (IsClearOf 10 12) t made
 keeps_flat t net made same none flat c is = (
-  subst (FlattensTo c) (sym same) (subst (λ x. FlattensTo x net) is flat),
+  subst (IsFlatNetOf c) (sym same) (subst (λ x. IsFlatNetOf x net) is flat),
   subst (λ x. IsClearOf 10 12 x) is (groups_clear (circuit_of t) none),
 )
 
@@ -86,11 +86,11 @@ pub reports_told : (t : Circuit) → (r : Refused (FirFault × Circuit)) → IfF
 reports_told t (refused.Fault f) told = fault_first (circuit_of t) (fault_of f.0) told
 reports_told t refused.Memory told = tt
 
-abbrev pub IsCompiledOf : CircuitTree → Compiled → Type 0
-IsCompiledOf c x = FlattensTo c x.net × IsOrdered x.net x.order
+abbrev pub IsOrderedOf : CircuitTree → OrderedNet → Type 0
+IsOrderedOf c x = IsFlatNetOf c x.net × IsOrdered x.net x.order
 
 pub keeps_order : (net made : FlatNet) (order : List Read) → made ≡ net → IsOrdered net order
-    → Passes FlattensTo IsCompiledOf (IsClearOf 13 13) net (record { net = made; order = order })
+    → Passes IsFlatNetOf IsOrderedOf (IsClearOf 13 13) net (record { net = made; order = order })
 keeps_order net made order same ordered c flat =
-    let both : FlattensTo c net × IsOrdered net order = (flat, ordered) in
-    (subst (λ n. FlattensTo c n × IsOrdered n order) (sym same) both, loops_clear c (flat.no_loop ordered.no_loop))
+    let both : IsFlatNetOf c net × IsOrdered net order = (flat, ordered) in
+    (subst (λ n. IsFlatNetOf c n × IsOrdered n order) (sym same) both, loops_clear c (flat.flattens.no_loop ordered.no_loop))

@@ -25,7 +25,8 @@ use Rattle.fir_net.proofs.LeafEquations.{driven_at}
 use Rattle.fir_net.proofs.StateWords.{RegisterAt, StateAt, register_at, state_at, state_of}
 use Rattle.fir_flatten.specs.SourceRows.{array_row}
 use Rattle.fir_flatten.specs.BlockWords.{HasBlock, HaveBlocks, IsClocked, TakesValue, is_pipe, is_reset_at_once}
-use Rattle.fir_flatten.specs.working.FlattensTo.{HasClock, MeansSource}
+use Rattle.fir_equivalence.specs.working.IsEquivalent.{HasClock}
+use Rattle.fir_flatten.specs.working.FlattensTo.{MeansSource}
 use Rattle.fir_mem.specs.working.Lowers.{HasRole, Lowers}
 use Rattle.ver_build.specs.working.BlockRegisters.{AreMarked, EndsAtInput, HasBlock as HasBlockIn, net_registers, role_register, word_register}
 use Rattle.fir_compile.proofs.ClockEnds.{ends_where_it_has}

@@ -1,18 +1,17 @@
-//! A circuit that is compiled, and the pass to it.
+//! A circuit that is compiled: its net once folded and without dead logic.
 
-ghost use Rattle.std.specs.Prelude.{◌≡◌};
-ghost use Rattle.fir_ast.specs.working.CodeFaults.{fault_of};
-ghost use Rattle.fir_pass.specs.Groups.{of_loops};
-ghost use Rattle.fir_meaning.specs.working.Stages.{IsClearOf, IsFirstOf};
-ghost use Rattle.fir_loop.specs.working.Orders.{IsOrdered};
-ghost use Rattle.fir_flatten.specs.working.FlattensTo.{FlattensTo};
+ghost use Rattle.std.specs.Prelude.{IfOk};
+ghost use Rattle.fir_net.specs.working.IsNet.{IsNet};
+ghost use Rattle.fir_net.specs.working.IsOrder.{IsOrder};
+ghost use Rattle.fir_equivalence.specs.working.IsEquivalent.{IsEquivalent};
 
-use crate::flat::WholeNet;
-use fir_ast::FirFault;
-use fir_base::Refused;
-use fir_loop::{Order, order};
+use crate::ordered::OrderedNet;
+use fir_base::MemoryOut;
+use fir_drop_dead::drop_dead;
+use fir_equivalence::laws::equivalent_of_equivalent;
+use fir_fold::fold;
+use fir_loop::Order;
 use fir_net::FlatNet;
-use fir_pass::{Meant, Pass};
 use std::alloc::Global;
 
 /// The net of a circuit, and an order of its leaves and nodes.
@@ -22,35 +21,16 @@ pub struct Compiled {
     pub order: Order,
 }
 
-impl Meant for Compiled {
-    ghost is_of = { λ c x. FlattensTo c x.net × IsOrdered x.net x.order };
-}
-
-/// Orders the leaves and nodes of a net: the fault of the last group, E28.
-#[derive(Drop)]
-pub struct FindOrder;
-
-impl Pass for FindOrder {
-    type In = WholeNet;
-
-    type Out = Compiled;
-
-    type Fault = (FirFault, WholeNet);
-
-    ghost clear = { IsClearOf of_loops of_loops };
-
-    ghost reports = { λ c f. IsFirstOf of_loops of_loops c (fault_of f.0) };
-
-    ghost hands_back = { λ x f. f.1 ≡ x };
-
-    fn run(&self, alloc: Global, x: WholeNet) -> Result<Compiled, Refused<(FirFault, WholeNet)>> {
-        match order(alloc, x.net()) {
-            Ok(order) => Ok(Compiled {
-                net: x.into_net(),
-                order,
-            }),
-            Err(Refused::Fault(fault)) => Err(Refused::Fault((fault, x))),
-            Err(Refused::Memory) => Err(Refused::Memory),
-        }
-    }
+/// The net with its nodes simplified, and without the leaves and nodes that nothing needs.
+pub fn simplified(alloc: Global, ordered: OrderedNet) -> Result<Compiled, MemoryOut>
+    requires whole { IsNet ordered.net }
+    requires in_order { IsOrder ordered.net ordered.order }
+    ensures equivalent { IfOk result (λ compiled. IsEquivalent ordered.net compiled.net) }
+    ensures in_order { IfOk result (λ compiled. IsOrder compiled.net compiled.order) }
+{
+    equivalent_of_equivalent();
+    let OrderedNet { net, order } = ordered;
+    let (net, order) = fold(alloc, net, order)?;
+    let (net, order) = drop_dead(alloc, net, order)?;
+    Ok(Compiled { net, order })
 }

@@ -37,9 +37,9 @@ impl Model for WholeNet {
 }
 
 impl Meant for WholeNet {
-    ghost use Rattle.fir_flatten.specs.working.FlattensTo.{FlattensTo};
+    ghost use Rattle.fir_flatten.specs.working.FlattensTo.{IsFlatNetOf};
 
-    ghost is_of = { FlattensTo };
+    ghost is_of = { IsFlatNetOf };
 }
 
 impl WholeNet {

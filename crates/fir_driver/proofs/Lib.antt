@@ -1,1 +1,2 @@
 pub mod SimulationComplete
+pub mod WordsEnded

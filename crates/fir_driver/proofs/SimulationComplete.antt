@@ -10,7 +10,7 @@ use Rattle.trace_text.specs.BadLine.{BadLine}
 use Rattle.trace_text.specs.working.Laws.{SpelledIsNotBad}
 use Rattle.fir_outcome.specs.declared.status.Status.{Status}
 use Rattle.fir_outcome.specs.declared.status.Status.TheVariants.{Done, Refused, Usage, Unread, Unwritten, NoMemory, BadTrace, TooLong}
-use Rattle.fir_cli.specs.Command.{Simulated, Command, emit, sim, command_of}
+use Rattle.fir_words.specs.Commands.{Simulated, Command, asked_by, check, emit, sim}
 use Rattle.fir_outcome.specs.Emits.{Takes}
 use Rattle.fir_outcome.specs.Outside.{Outside, IsRead, Tells, TellsTooMuch, code}
 use Rattle.fir_outcome.specs.Traces.{IsTraceShape}
@@ -19,7 +19,7 @@ use Rattle.fir_driver.specs.SimulationAnswers.{SimulationAnswers, SimulationComp
 use Rattle.fir_driver.specs.Program.{NotTaken, Does, DoesFor, Answers, AnswersFor}
 use Rattle.fir_commands.proofs.Refused.{refused_is_not_taken}
 use Rattle.fir_runner.proofs.Told.{IsTooLong, not_short, read_is, not_too_much}
-use Rattle.fir_commands.proofs.EmitComplete.{emit_complete}
+use Rattle.fir_commands.proofs.TextsComplete.{check_complete, emit_complete}
 use Rattle.fir_runner.proofs.TraceShapes.{one_shape}
 
 module _ (s : Simulated) (before : Outside) (text : List ℕ) (read_text : IsRead s.circuit before text) where
@@ -138,9 +138,10 @@ module _ (one : SpellsOneTree) (tree_or_fault : HasTreeOrFault) (not_bad : Spell
 
   answers_for : (asked : Option Command) (before after : Outside) (ending : Status) → DoesFor asked before after ending → AnswersFor asked before after (code ending)
   answers_for None before after ending h = untaken_answers before after ending h
+  answers_for (Some (check name)) before after ending h = check_complete one tree_or_fault name before after ending h
   answers_for (Some (emit name)) before after ending h = emit_complete one tree_or_fault name before after ending h
   answers_for (Some (sim s)) before after ending h = simulation_complete s before after ending h
 
 pub answers : SpellsOneTree → HasTreeOrFault → SpelledIsNotBad → (words : List (String Global)) (before after : Outside) (ending : Status)
     → Does words before after ending → Answers words before after (code ending)
-answers one tree_or_fault not_bad words = answers_for one tree_or_fault not_bad (command_of words)
+answers one tree_or_fault not_bad words = answers_for one tree_or_fault not_bad (asked_by words)

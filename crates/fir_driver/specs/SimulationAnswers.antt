@@ -6,7 +6,7 @@ use Rattle.trace_text.specs.declared.fault.TraceFault.{TraceFault}
 use Rattle.trace_text.specs.Shapes.{TraceShape}
 use Rattle.trace_text.specs.TraceSpells.{TraceSpells}
 use Rattle.trace_text.specs.BadLine.{BadLine}
-use Rattle.fir_cli.specs.Command.{Simulated}
+use Rattle.fir_words.specs.Commands.{Simulated}
 use Rattle.fir_outcome.specs.Emits.{Takes}
 use Rattle.fir_outcome.specs.Outside.{Outside, NoneFailed, Tells, TellsTooMuch}
 use Rattle.fir_outcome.specs.Traces.{IsTraceShape}

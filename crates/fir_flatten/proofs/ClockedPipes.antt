@@ -26,11 +26,12 @@ use Rattle.fir_net.specs.declared.leaf.Role.TheVariants as role
 use Rattle.fir_net.specs.declared.net.FlatNet.{FlatNet}
 use Rattle.fir_net.specs.working.IsNet.{IsClock, IsRole}
 use Rattle.fir_net.proofs.LeafEquations.{driven_at}
+use Rattle.fir_equivalence.specs.working.IsEquivalent.{HasClock}
 use Rattle.fir_flat.specs.working.FlatLaws.{IsFaithful}
 use Rattle.fir_flat.proofs.KeptValues.{AreBeside, kept}
 use Rattle.fir_flat.proofs.SettledValues.{beside, settled_in_circuit, settled_in_net}
 use Rattle.fir_flatten.specs.BlockWords.{IsClocked, is_pipe}
-use Rattle.fir_flatten.specs.working.FlattensTo.{HasClock, PipesAs}
+use Rattle.fir_flatten.specs.working.FlattensTo.{PipesAs}
 
 module _ (c : LeafCircuit) (net : FlatNet) (faithful : IsFaithful c net) (x : ℕ) (l : Leaf) (at : slice_get net.leaves x ≡ Some l) (d : Pipe)
     (own : l.role ≡ role.Pipe d) (m : Reading) (clock : ℕ) (under : ReadUnderWrite) (clock_is : d.clock ≡ clock) (law : HasItsType) (t : SourceDesign)

@@ -33,13 +33,13 @@ use Rattle.fir_net.specs.declared.leaf.Role.TheVariants as role
 use Rattle.fir_net.specs.declared.net.FlatNet.{FlatNet}
 use Rattle.fir_net.specs.working.IsNet.{IsRole}
 use Rattle.fir_net.proofs.LeafEquations.{driven_at}
+use Rattle.fir_equivalence.specs.working.IsEquivalent.{HasClock}
 use Rattle.fir_flat.specs.working.FlatCircuits.{IsRoleOf}
 use Rattle.fir_flat.specs.working.FlatLaws.{IsFaithful}
 use Rattle.fir_flat.proofs.KeptValues.{AreBeside, kept}
 use Rattle.fir_flat.proofs.SettledValues.{beside, own_beside, settled_in_circuit, settled_in_net}
 use Rattle.fir_flat.proofs.ShownValues.{gives}
 use Rattle.fir_flatten.specs.BlockWords.{IsClocked}
-use Rattle.fir_flatten.specs.working.FlattensTo.{HasClock}
 
 -- the leaf of a register's clock
 abbrev register_clock : FlatRole → ℕ

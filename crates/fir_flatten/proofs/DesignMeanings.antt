@@ -8,6 +8,7 @@ use Rattle.fir_bits.specs.working.Laws.{HasItsType}
 use Rattle.fir_meaning.specs.ModuleScenes.{Scene}
 use Rattle.fir_meaning.specs.SourceCircuits.{PlacedLeaf, all_leaves, main_ports, port_leaves, state_words}
 use Rattle.fir_meaning.specs.SourceDesigns.{IsSourceDesignOf, SourceDesign, made_of}
+use Rattle.fir_meaning.specs.SourceMeaning.{source_counts}
 use Rattle.fir_meaning.specs.SourceRoles as source
 use Rattle.fir_meaning.specs.SourceRoles.{SourceLeaf, SourceRole}
 use Rattle.fir_meaning.specs.LeafPaths.{LeafPath}
@@ -40,11 +41,12 @@ use Rattle.fir_flat.proofs.FlatLeaves.{shape_is}
 use Rattle.fir_source_faults.specs.working.NumberedTaking.{takes}
 use Rattle.fir_flatten.specs.BlockWords.{IsTaking, is_pipe}
 use Rattle.fir_flatten.specs.working.FlatDesigns.{IsFlatDesign, is_some, takes_value}
-use Rattle.fir_flatten.specs.working.FlattensTo.{MeansSource, PipesAs, TakesAs}
+use Rattle.fir_flatten.specs.working.FlattensTo.{MeansSource, PipesAs, TakesAs, net_counts}
 use Rattle.fir_flatten.specs.working.Laws.{DesignsArePlain, IsDesigned, IsClearDesign}
 use Rattle.fir_flatten.proofs.AsyncRegisters.{reset_alike}
 use Rattle.fir_flatten.proofs.ClockedPipes.{pipes_alike}
 use Rattle.fir_flatten.proofs.ClockedRegisters.{clocked_same}
+use Rattle.fir_flatten.proofs.CountedLeaves.{counted_same}
 use Rattle.fir_flatten.proofs.DesignedNets.{faithful_to_design, net_of_design}
 use Rattle.fir_flatten.proofs.DesignsOfCircuits.{designs_beside}
 use Rattle.fir_flatten.proofs.LeafRoles.{shaped_pipe, shaped_register}
@@ -154,6 +156,9 @@ module _ (laws : LawsBelow) (c : CircuitTree) (scenes : List Scene) (main : Scen
           );
           clock = clocked_same g net net_faithful k l at r is register.0 register.1 register.2 laws.types t step p (step.each k p get).role;
         }
+
+    pub counts : source_counts t ≡ net_counts net
+    counts = counted_same (flattened d) (leafed_module main).port_leaves net net_is t (in_step c d t a)
 
     pub means : MeansSource t net
     means =

@@ -5,7 +5,9 @@ use Rattle.fir_ast.specs.working.CodeFaults.{fault_of}
 use Rattle.fir_pass.specs.Groups.{IsClear}
 use Rattle.fir_meaning.specs.Elaborated.{IsSourceOf}
 use Rattle.fir_meaning.specs.ModuleScenes.{Scene}
+use Rattle.fir_meaning.specs.SourceDesigns.{SourceDesign}
 use Rattle.fir_meaning.specs.SourceLoops.{loop_group}
+use Rattle.fir_meaning.specs.SourceMeaning.{source_counts}
 use Rattle.fir_meaning.specs.working.Designs.{Design}
 use Rattle.fir_meaning.specs.working.Flattened.{flattened}
 use Rattle.fir_meaning.specs.working.LeafModules.{leaf_at}
@@ -13,9 +15,9 @@ use Rattle.fir_meaning.specs.working.LeafedModules.{leafed_module}
 use Rattle.fir_net.specs.declared.net.FlatNet.{FlatNet}
 use Rattle.fir_net.specs.working.IsWritable.{HasConstantInits, HasOneClocks, IsWritable}
 use Rattle.fir_loop.specs.working.IsLoop.{IsLoop}
-use Rattle.fir_flatten.specs.working.FlattensTo.{FlattensTo}
+use Rattle.fir_flatten.specs.working.FlattensTo.{FlattensTo, net_counts}
 use Rattle.fir_flatten.specs.working.Laws.{DesignsFlatten}
-use Rattle.fir_flatten.proofs.DesignMeanings.{IsGiven, LawsBelow, means, net_is}
+use Rattle.fir_flatten.proofs.DesignMeanings.{IsGiven, LawsBelow, counts, means, net_is}
 use Rattle.fir_flatten.proofs.DesignedNets.{source_is}
 use Rattle.fir_flatten.proofs.DesignsOfCircuits.{designs_beside, tree_of}
 use Rattle.fir_flatten.proofs.FlatWords.{flat_words}
@@ -63,6 +65,10 @@ module _ (laws : LawsBelow) (c : CircuitTree) (scenes : List Scene) (main : Scen
         no_loop = no_loop;
       }
 
+  counted : (t : SourceDesign) → IsSourceOf c t → source_counts t ≡ net_counts net
+  counted t src = counts laws c scenes main d net given t (source_is c scenes main d given.designed t src)
+
 pub designs_flatten : LawsBelow → DesignsFlatten
 designs_flatten laws c scenes main d net designed taken flat named inits clocks =
-    flattens laws c scenes main d net (record { designed = designed; taken = taken; flat = flat }) named inits clocks
+    let given : IsGiven c scenes main d net = record { designed = designed; taken = taken; flat = flat } in
+    record { flattens = flattens laws c scenes main d net given named inits clocks; counted = counted laws c scenes main d net given }

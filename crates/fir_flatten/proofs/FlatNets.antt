@@ -39,7 +39,7 @@ use Rattle.fir_flatten.specs.working.DesignParts.{AreAllMemoriesTyped, AreDesign
 use Rattle.fir_flatten.specs.working.FirstSites as sites
 use Rattle.fir_flatten.specs.working.FlatDesigns.{IsFlatDesign, IsPlainDesign}
 use Rattle.fir_flatten.specs.working.FlatFaults.{ShowsNone, TellsClock, TellsFirst, TellsInit, TellsMemory}
-use Rattle.fir_flatten.specs.working.FlattensTo.{FlattensTo}
+use Rattle.fir_flatten.specs.working.FlattensTo.{IsFlatNetOf}
 use Rattle.fir_flatten.specs.working.Laws.{DesignsArePlain, DesignsFlatten, DesignsHaveOneClocks, DesignsTellInits, HasInitsOf, IsClearDesign}
 use Rattle.fir_flatten.proofs.DesignCopies.{have_widths}
 use Rattle.fir_flatten.proofs.DesignedNets.{source_is}
@@ -230,7 +230,7 @@ module _ (laws : LawsOfDesigns) (c : CircuitTree) (memories : AreAllMemoriesType
       inits_of = laws.inits c h.scenes h.main h.design flat h.designed is_clear_design flat_is
 
       -- where its inits are constants, the flat net of its design is the circuit's
-      pub is_flat_net : flat.name ≡ c.named.name → HasConstantInits flat → FlattensTo c flat
+      pub is_flat_net : flat.name ≡ c.named.name → HasConstantInits flat → IsFlatNetOf c flat
       is_flat_net named inits = laws.flatten c h.scenes h.main h.design flat h.designed is_clear_design flat_is named inits on_one_clock
 
       pub shows_none : HasConstantInits flat → ShowsNone c

@@ -51,6 +51,7 @@ pub mod DesignPorts
 pub mod PlainNets
 pub mod OneScene
 pub mod SourceRowsOfNets
+pub mod CountedLeaves
 pub mod DrivenLeaves
 pub mod TakingRegisters
 pub mod ClockedRegisters

@@ -4,7 +4,7 @@ ghost use Rattle.std.specs.Prelude.{◌≡◌, IfOk};
 ghost use Rattle.fir_ast.specs.working.Views.{circuit_of};
 ghost use Rattle.fir_ast.specs.working.CodeFaults.{fault_of};
 ghost use Rattle.fir_pass.specs.working.Law.{IfFault};
-ghost use Rattle.fir_flatten.specs.working.FlattensTo.{FlattensTo};
+ghost use Rattle.fir_flatten.specs.working.FlattensTo.{IsFlatNetOf};
 ghost use Rattle.fir_flatten.specs.working.FlatFaults.{ShowsNone, TellsFirst};
 
 use crate::clock_faults::clock_fault;
@@ -27,14 +27,14 @@ use fir_net::FlatNet;
 use fir_whens::NetCircuit;
 use std::alloc::Global;
 
-/// The flat net of a circuit. It allows at every tick what the circuit's source allows, with its names (FIRRTL spec,
-/// "Circuits", "Instances"); or else E25, the first fault of its clocks, or else E26, the first of the clocks of its
+/// The flat net of a circuit. It allows at every tick what the circuit's source allows, with its names, and has as many
+/// leaves, registers and memories (FIRRTL spec, "Circuits", "Instances"); or else E25, the first fault of its clocks, or else E26, the first of the clocks of its
 /// memories, or else E27, of an asynchronous reset whose init is no constant, and the circuit as it was given.
 pub fn flatten(
     alloc: Global,
     circuit: NetCircuit,
 ) -> Result<FlatNet, Refused<(FirFault, NetCircuit)>>
-    ensures flat { IfOk result (FlattensTo (circuit_of circuit)) }
+    ensures flat { IfOk result (IsFlatNetOf (circuit_of circuit)) }
     ensures clear { IfOk result (λ n. ShowsNone (circuit_of circuit)) }
     ensures told { IfFault result (λ f. TellsFirst (circuit_of circuit) (fault_of f.0)) }
     ensures back { IfFault result (λ f. f.1 ≡ circuit) }
@@ -48,7 +48,7 @@ pub fn flatten(
 
 /// The flat net, or the first fault.
 fn flat_net(alloc: Global, circuit: &NetCircuit) -> Result<FlatNet, Refused<FirFault>>
-    ensures flat { IfOk result (FlattensTo (circuit_of circuit.now)) }
+    ensures flat { IfOk result (IsFlatNetOf (circuit_of circuit.now)) }
     ensures clear { IfOk result (λ n. ShowsNone (circuit_of circuit.now)) }
     ensures told { IfFault result (λ f. TellsFirst (circuit_of circuit.now) (fault_of f)) }
 {

@@ -4,6 +4,7 @@ pub mod Compiles
 pub mod Messages
 pub mod CircuitFaults
 pub mod Emits
+pub mod Checks
 pub mod Refusals
 pub mod Outside
 pub mod Traces

@@ -8,8 +8,10 @@ use Rattle.fir_ast.specs.declared.fault.FirFault.{FirFault}
 use Rattle.fir_ast.specs.Circuits.{CircuitTree}
 use Rattle.fir_ast.specs.working.CodeFaults.{fault_of}
 use Rattle.fir_pass.specs.Groups.{IsClear}
+use Rattle.fir_pass.specs.Meaning.{Counts}
 use Rattle.fir_meaning.specs.Elaborated.{IsSourceOf}
 use Rattle.fir_meaning.specs.SourceLoops.{loop_group}
+use Rattle.fir_meaning.specs.SourceMeaning.{source_counts}
 use Rattle.fir_meaning.specs.SourceAllows.{Allows}
 use Rattle.fir_meaning.specs.SourceCircuits.{PlacedLeaf, is_sink_role, ports_where, source_shape, state_words, widths_of_leaves}
 use Rattle.fir_meaning.specs.SourceDesigns.{SourceDesign}
@@ -26,9 +28,11 @@ use Rattle.fir_net.specs.working.IsNet.{IsNet}
 use Rattle.fir_net.specs.working.IsWritable.{IsWritable}
 use Rattle.fir_net.specs.working.One.{One as NetOne}
 use Rattle.fir_net.specs.working.WordNames.{HasWordNames}
-use Rattle.fir_net.specs.working.Settled.{Settled, outputs as net_outputs, shape as net_shape}
+use Rattle.fir_net.specs.working.Counted.{array_count, leaf_count, register_count}
+use Rattle.fir_net.specs.working.Settled.{outputs as net_outputs, shape as net_shape}
 use Rattle.fir_net.specs.working.Values.{leaf_width}
 use Rattle.fir_loop.specs.working.IsLoop.{IsLoop, ShowsLoop}
+use Rattle.fir_equivalence.specs.working.IsEquivalent.{HasClock}
 use Rattle.fir_flatten.specs.SourceRows.{source_array_rows, source_rows, source_words}
 use Rattle.fir_flatten.specs.BlockWords.{IsClocked, TakesValue, is_pipe, is_reset_at_once}
 use Rattle.fir_flatten.specs.working.Words.{HasWords}
@@ -36,11 +40,6 @@ use Rattle.fir_flatten.specs.working.Words.{HasWords}
 -- the widths of the outputs, in their order
 abbrev pub output_widths : SourceDesign → List ℕ
 output_widths t = widths_of_leaves (ports_where is_sink_role has_bits t)
-
--- a clock leaf of the net has a clock, in all settled values
-abbrev pub HasClock : FlatNet → ℕ → Type 0
-HasClock net k =
-    (state : List ℕ) (tick : Tick) (env : ℕ → ℕ) (clock : ℕ → Option ℕ) → Settled net state tick env clock → IsSome (clock k)
 
 -- the register of a word of the net beside the word of the tree: it has a reset where that has an asynchronous one; something drives it, or it has a reset, where
 -- that takes a value; and it has a clock where that has one
@@ -82,3 +81,12 @@ pub record FlattensTo (c : CircuitTree) (net : FlatNet) : Type 0 where
   pub each : (t : SourceDesign) → IsSourceOf c t → MeansSource t net
   pub loops : (f : FirFault) → ShowsLoop net f → (loop_group c).shows (fault_of f)
   pub no_loop : ((walk : List ℕ) → IsLoop net walk → ⊥) → IsClear (loop_group c)
+
+-- how many leaves, registers and arrays a net has
+abbrev pub net_counts : FlatNet → Counts
+net_counts net = record { leaves = leaf_count net; registers = register_count net; memories = array_count net }
+
+-- one that has also as many of these as the circuit's source
+pub record IsFlatNetOf (c : CircuitTree) (net : FlatNet) : Type 0 where
+  pub flattens : FlattensTo c net
+  pub counted : (t : SourceDesign) → IsSourceOf c t → source_counts t ≡ net_counts net

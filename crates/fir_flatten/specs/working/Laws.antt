@@ -30,7 +30,7 @@ use Rattle.fir_elaborate.specs.declared.elaborated.ModuleCopy.{ModuleCopy}
 use Rattle.fir_elaborate.specs.working.Elaborations.{IsElaborated}
 use Rattle.fir_inits.specs.working.ShowsInit.{ShowsInit}
 use Rattle.fir_flatten.specs.working.FlatDesigns.{IsFlatDesign, IsPlainDesign}
-use Rattle.fir_flatten.specs.working.FlattensTo.{FlattensTo}
+use Rattle.fir_flatten.specs.working.FlattensTo.{IsFlatNetOf}
 
 -- a circuit whose modules have these scenes, without a fault of names or types, of whose design this is the one over ground leaves
 pub record IsDesigned (c : CircuitTree) (scenes : List Scene) (main : Scene) (d : Design) : Type 0 where
@@ -67,12 +67,12 @@ DesignsHaveOneClocks =
     → IsClearDesign scenes d → slice_get scenes x ≡ Some main → IsElaborated x d e → IsEachOnOneClock c e.copies.items
     → IsFlatDesign (flattened d) (leafed_module main).port_leaves net → HasOneClocks net
 
--- and the flat net of the design, whose inits are constants, is that of the circuit
+-- and the flat net of the design, whose inits are constants, is that of the circuit, and has its counts
 abbrev pub DesignsFlatten : Type 0
 DesignsFlatten =
     (c : CircuitTree) (scenes : List Scene) (main : Scene) (d : Design) (net : FlatNet) → IsDesigned c scenes main d → IsClearDesign scenes d
     → IsFlatDesign (flattened d) (leafed_module main).port_leaves net → net.name ≡ c.named.name → HasConstantInits net → HasOneClocks net
-    → FlattensTo c net
+    → IsFlatNetOf c net
 
 -- an init that is no constant stands in the net exactly where it stands in the circuit (FIRRTL spec, "Registers")
 pub record HasInitsOf (c : CircuitTree) (net : FlatNet) : Type 0 where

@@ -1,5 +1,5 @@
 use Rattle.std.proofs.Common.{inl, refl}
-use Rattle.fir_cli.specs.working.Commanded.{simulated}
+use Rattle.fir_words.specs.working.Commanded.{simulated}
 use Rattle.fir_commands.proofs.SimulationEnded.{text_ended, not_read}
 use Rattle.fir_commands.proofs.TraceEnded.{untaken_ended}
 use Rattle.fir_commands.proofs.simulation.simulate.Goals as goal

@@ -1,21 +1,19 @@
-use Rattle.std.proofs.Common.{refl, sym, subst}
-use Rattle.fir_ast.specs.working.Views.{circuit_of}
-use Rattle.fir_outcome.specs.Refusals.{RefusedFor}
-use Rattle.fir_compile.proofs.ChainFaults.{refused, takes}
+use Rattle.fir_compile.proofs.EquivalentNets.{flattens_equivalent}
 use Rattle.fir_compile.proofs.passes.compile.Goals as goal
 
-pub returns-in-Ok-clause-compiled : goal.returns-in-Ok-clause-compiled
-returns-in-Ok-clause-compiled c =
-    let circuit = circuit_of c.in_ok-circuit.circuit in
-    let made = c.in-Ok.ensures.ok circuit refl in
-    record { circuit = circuit; taken = takes c.args.bytes.now circuit c.in_ok-circuit.ensures made.1; flattened = made.0.0; one = made.0.1.one }
-
-pub returns-in-Ok-clause-in_order : goal.returns-in-Ok-clause-in_order
-returns-in-Ok-clause-in_order c = let made = c.in-Ok.ensures.ok (circuit_of c.in_ok-circuit.circuit) refl in made.0.1.order
-
-pub returns-in-Err-Fault-clause-compiled : goal.returns-in-Err-Fault-clause-compiled
-returns-in-Err-Fault-clause-compiled c =
-    let circuit = circuit_of c.in_ok-circuit.circuit in
-    let reported = rw c.in-Err-Fault.field-0-is at c.in-Err-Fault.ensures.fault in
-    subst (RefusedFor c.args.bytes.now) (sym c.into_fault.ensures)
-    (refused c.args.bytes.now circuit c.in_ok-circuit.ensures c.in-Err-Fault.fault (reported circuit refl))
+pub returns-clause-compiled : goal.returns-clause-compiled
+returns-clause-compiled c =
+    let h = c.in_ok-ordered.ensures.counted.compiles in
+    let net = c.in_ok-ordered.ordered.net in
+    let other = c.in_ok-simplified.field-0.net in
+    let e = c.in_ok-simplified.ensures.equivalent in
+    let later = c.in_ok-simplified.ensures.in_order in
+    let one = c.ordered_has_one.ensures in
+    record {
+      circuit = h.circuit;
+      taken = h.taken;
+      flattened =
+          flattens_equivalent one h.circuit net other c.in_ok-ordered.ordered.order c.in_ok-simplified.field-0.order h.flattened
+          c.in_ok-ordered.ensures.in_order e later;
+      one = one other c.in_ok-simplified.field-0.order e.whole later;
+    }

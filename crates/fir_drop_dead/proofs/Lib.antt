@@ -1,0 +1,17 @@
+pub mod KeptPairs
+pub mod KeptItems
+pub mod MarkSteps
+pub mod WholeReads
+pub mod NeededRoots
+pub mod MarkedBehind
+pub mod PlacesSoFar
+pub mod KeptEntries
+pub mod KeptReads
+pub mod KeptLeaves
+pub mod KeptWhole
+pub mod KeptDependence
+pub mod KeptOrder
+pub mod KeptLive
+pub mod KeptValues
+pub mod ConstantInits
+pub mod KeptRewrites

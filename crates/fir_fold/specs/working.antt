@@ -1,0 +1,5 @@
+-- What no clause of `run` reads: contracts between layers, laws, views of the code and its states.
+pub mod IsFolded
+pub mod Standing
+pub mod Walking
+pub mod FoldedNet

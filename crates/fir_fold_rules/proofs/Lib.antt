@@ -1,0 +1,15 @@
+pub mod Standing
+pub mod Typing
+pub mod NarrowReads
+pub mod LiteralOperands
+pub mod Replacements
+pub mod Operands
+pub mod Extensions
+pub mod RuleForms
+pub mod Proposals
+pub mod BitwiseRules
+pub mod ChoiceRules
+pub mod ConversionRules
+pub mod SliceRules
+pub mod ComparisonRules
+pub mod ArithmeticRules

@@ -1,0 +1,6 @@
+use Rattle.std.proofs.Common.{refl}
+use Rattle.fir_fold_rules.proofs.ComparisonRules.{eq_itself}
+use Rattle.fir_fold_rules.proofs.rules.comparisons.eq_itself.Goals as goal
+
+pub returns-then-is_same : goal.returns-then-is_same
+returns-then-is_same c = eq_itself c.args.ty c.args.a.now c.args.b.now (c.if-is_same.ensures refl)

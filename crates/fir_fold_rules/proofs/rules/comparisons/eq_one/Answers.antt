@@ -1,0 +1,6 @@
+use Rattle.std.proofs.Common.{refl}
+use Rattle.fir_fold_rules.proofs.ComparisonRules.{eq_one}
+use Rattle.fir_fold_rules.proofs.rules.comparisons.eq_one.Goals as goal
+
+pub returns-then-is_number : goal.returns-then-is_number
+returns-then-is_number c = eq_one c.args.ty c.args.a.now c.args.b.now (c.if-is_bit.ensures refl) (c.if-is_number.ensures refl)

@@ -1,0 +1,6 @@
+use Rattle.std.proofs.Common.{refl}
+use Rattle.fir_fold_rules.proofs.ComparisonRules.{lt_zero}
+use Rattle.fir_fold_rules.proofs.rules.comparisons.lt_zero.Goals as goal
+
+pub returns-then-is_number : goal.returns-then-is_number
+returns-then-is_number c = lt_zero c.args.ty c.args.a.now c.args.b.now (c.if-is_unsigned.ensures refl) (c.if-is_number.ensures refl)

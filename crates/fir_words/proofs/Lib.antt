@@ -1,0 +1,9 @@
+pub mod FlagReads
+pub mod FilledRows
+pub mod FilledWalk
+pub mod TakenWords
+pub mod PlainWords
+pub mod NamedWords
+pub mod PlainNames
+pub mod SimulationNames
+mod CommandRows

@@ -1,0 +1,5 @@
+use Rattle.fir_words.proofs.SimulationNames.{plain_names_are_taken}
+use Rattle.fir_words.proofs.laws.plain_names_are_taken.Goals as goal
+
+pub returns : goal.returns
+returns c = plain_names_are_taken

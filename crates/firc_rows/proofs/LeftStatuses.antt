@@ -1,0 +1,64 @@
+-- Which statuses are left where no count of faults rises.
+use Rattle.std.proofs.Common.{◌≡◌, ℕ, List, Option, Some, None, inl, inr, refl, arith}
+use Rattle.fir_io.specs.Ports.{Rose}
+use Rattle.fir_outcome.specs.declared.status.Status.{Status}
+use Rattle.fir_outcome.specs.declared.status.Status.TheVariants.{Done, Refused, Usage, Unread, Unwritten, NoMemory, BadTrace, TooLong}
+use Rattle.fir_outcome.specs.Outside.{Outside, code}
+use Rattle.fir_words.specs.Commands.{Command, Simulated, check, emit, sim}
+use Rattle.fir_commands.specs.Check.{check_meaning}
+use Rattle.fir_commands.specs.Emit.{emit_meaning}
+use Rattle.fir_commands.specs.Simulates.{Simulates}
+use Rattle.fir_commands.specs.TextCommands.{PutsText, TextMeaning}
+use Rattle.fir_driver.specs.Program.{DoesFor}
+use Rattle.firc_rows.specs.working.Left.{IsLeft}
+
+-- what never counts a fault has none
+no_rise : (before after : ℕ) → before ≡ 0 → after ≡ 0 → Rose before after → ⊥
+no_rise before after b a rose = let h : Rose 0 0 = rw (b, a) at rose in absurd (omega (arith, h))
+
+pub record NoneRise (before after : Outside) : Type 0 where
+  pub files : Rose before.files.faults after.files.faults → ⊥
+  pub out : Rose before.out.faults after.out.faults → ⊥
+  pub err : Rose before.err.faults after.err.faults → ⊥
+
+module _ (before after : Outside) (none : NoneRise before after) where
+  of_text : (k : TextMeaning) (name : List ℕ) (s : Status) → PutsText k name before after s → IsLeft (Some (emit name)) (code s)
+  of_text k name Done h = inl refl
+  of_text k name Refused h = inr (inl refl)
+  of_text k name Usage h = absurd h.1
+  of_text k name Unread h = absurd (none.files h.1.0)
+  of_text k name Unwritten (inl h) = absurd (none.out h.1)
+  of_text k name Unwritten (inr h) = absurd (none.err h.1)
+  of_text k name NoMemory h = inr (inr (inl refl))
+  of_text k name BadTrace h = absurd h.1
+  of_text k name TooLong h = inr (inr (inr refl))
+
+  of_simulation : (m : Simulated) (s : Status) → Simulates m before after s → IsLeft (Some (sim m)) (code s)
+  of_simulation m Done h = inl refl
+  of_simulation m Refused h = inr (inl refl)
+  of_simulation m Usage h = absurd h.1
+  of_simulation m Unread h = absurd (none.files h.1.2)
+  of_simulation m Unwritten (inl h) = absurd (none.out h.1)
+  of_simulation m Unwritten (inr h) = absurd (none.err h.1)
+  of_simulation m NoMemory h = inr (inr (inl refl))
+  of_simulation m BadTrace h = inr (inr (inr (inl refl)))
+  of_simulation m TooLong h = inr (inr (inr (inr refl)))
+
+  left : (asked : Option Command) (s : Status) → DoesFor asked before after s → IsLeft asked (code s)
+  left None Usage h = inl refl
+  left None Unwritten h = absurd (none.err h.1)
+  left None NoMemory h = inr refl
+  left None Done h = absurd h
+  left None Refused h = absurd h
+  left None Unread h = absurd h
+  left None BadTrace h = absurd h
+  left None TooLong h = absurd h
+  left (Some (check name)) s h = of_text check_meaning name s h
+  left (Some (emit name)) s h = of_text emit_meaning name s h
+  left (Some (sim m)) s h = of_simulation m s h
+
+pub sure_left : (asked : Option Command) (before after : Outside) (s : Status) → DoesFor asked before after s
+    → before.files.faults ≡ 0 → after.files.faults ≡ 0 → before.out.faults ≡ 0 → after.out.faults ≡ 0 → before.err.faults ≡ 0 → after.err.faults ≡ 0
+    → IsLeft asked (code s)
+sure_left asked before after s h a b c d e f =
+    left before after (record { files = no_rise _ _ a b; out = no_rise _ _ c d; err = no_rise _ _ e f }) asked s h
