@@ -1,0 +1,89 @@
+-- Blocks that were judged.
+use Rattle.std.proofs.Common.{◌≡◌, ℕ, List, [], ◌∷◌, ◌++◌, Bool, true, false, refl, sym, ap, ◌∙◌, subst}
+use Rattle.std.specs.Prelude.{Option, Some, None, drop, option_map, codes, if◌then◌else◌}
+use Rattle.std.specs.Str.{bytes_eq}
+use Rattle.ver_ast.specs.declared.place.VPlace.{VPlace}
+use Rattle.ver_ast.specs.declared.tree.Write.{Write}
+use Rattle.ver_ast.specs.Tokens.{VToken, word, sign, double}
+use Rattle.ver_ast.specs.Grammar.{atom_tokens, write_tokens}
+use Rattle.ver_fault.specs.working.Faults.{VFault}
+use Rattle.ver_check.specs.declared.kind.Kind.{Kind}
+use Rattle.ver_check.specs.declared.scope.Entry.{Entry}
+use Rattle.ver_check.specs.declared.scope.Scope.{Scope as Names}
+use Rattle.ver_check.specs.working.FaultForms.{undeclared_fault, kind_fault}
+use Rattle.ver_check.specs.working.Scopes.{Declaration, Scope, declaration_of, kind_of}
+use Rattle.ver_check.specs.working.OperandFaults.{behind, name_faults, lacking_faults, places_in}
+use Rattle.ver_check.specs.working.SideFaults.{misplaced_faults}
+use Rattle.ver_check.specs.working.ItemFaults.{Before, again_faults, more_writes_faults, next_write_faults}
+use Rattle.ver_check.specs.working.TreeFaults.{BeginsWith}
+use Rattle.ver_check.specs.working.Known.{Knows, found, entry_of}
+use Rattle.fir_base.proofs.SameNames.{name_is}
+use Rattle.ver_check.proofs.Firsts.{begins_more}
+use Rattle.ver_check.proofs.PlacesBehind.{behind_both, drop_one, drop_two}
+
+kinds : (o : Option Declaration) → option_map (λ (e : Entry). e.kind) (option_map entry_of o) ≡ option_map (λ (d : Declaration). d.kind) o
+kinds None = refl
+kinds (Some d) = refl
+
+-- what the code finds of a name
+pub known_kind : (names : Names) (scope : Scope) → Knows names scope → (n : List ℕ) (o : Option Entry) → found names n ≡ o
+    → kind_of scope n ≡ option_map (λ (e : Entry). e.kind) o
+known_kind names scope k n o e = sym (kinds (declaration_of scope n)) ∙ ap (option_map (λ (x : Entry). x.kind)) (sym (k.by_name n) ∙ e)
+
+pub unknown_begins : (bits : Kind → Option ℕ) (p : VPlace) (n : List ℕ) (o : Option Kind) (f : VFault) (gs : List VFault)
+    → o ≡ None → BeginsWith (undeclared_fault p n ∷ []) f → BeginsWith (name_faults bits p n o ++ gs) f
+unknown_begins bits p n o f gs e h =
+    subst (λ (x : Option Kind). BeginsWith (name_faults bits p n x ++ gs) f) (sym e) (begins_more f (undeclared_fault p n ∷ []) gs h)
+
+pub lacking_begins : (bits : Kind → Option ℕ) (p : VPlace) (n : List ℕ) (o : Option Kind) (k : Kind) (gs : List VFault)
+    → o ≡ Some k → bits k ≡ None → BeginsWith (name_faults bits p n o ++ gs) (kind_fault p)
+lacking_begins bits p n o k gs e lacks =
+    (gs, ap (λ (x : Option Kind). name_faults bits p n x ++ gs) e ∙ ap (λ (x : Option ℕ). lacking_faults p x ++ gs) lacks)
+
+-- the places behind a write, by those behind its parts
+pub behind_write : (w : Write) (ps : List VPlace)
+    → behind (atom_tokens w.source) (behind (atom_tokens w.index) (drop 2 (behind (atom_tokens w.condition) (drop 1 ps)))) ≡ behind (write_tokens w) ps
+behind_write w ps =
+    ap (λ (qs : List VPlace). behind (atom_tokens w.source) (behind (atom_tokens w.index) (drop 2 qs))) (drop_one (places_in (atom_tokens w.condition)) ps)
+    ∙ ap (behind (atom_tokens w.source)) (drop_two (places_in (atom_tokens w.index)) (behind condition ps))
+    ∙ ap (behind source) (behind_both condition index ps)
+    ∙ behind_both (condition ++ index) source ps
+    ∙ behind_both (condition ++ index ++ source) (sign 59 ∷ []) ps
+  where
+    condition : List VToken
+    condition = word (codes "if") ∷ sign 40 ∷ atom_tokens w.condition
+
+    index : List VToken
+    index = sign 41 ∷ word w.array ∷ sign 91 ∷ atom_tokens w.index
+
+    source : List VToken
+    source = sign 93 ∷ double 60 61 ∷ atom_tokens w.source
+
+-- the writes from one on, behind others that have no fault
+pub next_writes : (before : Before) (first : List ℕ) (all : List VFault) (ws more : List Write) (w : Write) (ps qs : List VPlace)
+    → ws ≡ w ∷ more → all ≡ more_writes_faults before first ws ps → next_write_faults before first w ps ≡ [] → qs ≡ behind (write_tokens w) ps
+    → all ≡ more_writes_faults before first more qs
+next_writes before first all ws more w ps qs is e none next =
+    e ∙ ap (λ (x : List Write). more_writes_faults before first x ps) is
+    ∙ ap (λ (fs : List VFault). fs ++ more_writes_faults before first more (behind (write_tokens w) ps)) none
+    ∙ ap (more_writes_faults before first more) (sym next)
+
+pub write_begins : (before : Before) (first : List ℕ) (all : List VFault) (ws more : List Write) (w : Write) (ps : List VPlace) (f : VFault)
+    → ws ≡ w ∷ more → all ≡ more_writes_faults before first ws ps → BeginsWith (next_write_faults before first w ps) f → BeginsWith all f
+write_begins before first all ws more w ps f is e h =
+    subst (λ (fs : List VFault). BeginsWith fs f) (sym (e ∙ ap (λ (x : List Write). more_writes_faults before first x ps) is))
+    (begins_more f (next_write_faults before first w ps) (more_writes_faults before first more (behind (write_tokens w) ps)) h)
+
+none_misplaced : (p : VPlace) (n : List ℕ) (o : Option Kind) → misplaced_faults p n o ≡ [] → ⊥
+none_misplaced p n None e = cc
+none_misplaced p n (Some k) e = cc
+
+-- a name that stands there again is the first one
+pub again_same : (before : Before) (first n : List ℕ) (p : VPlace) → again_faults before first n p ≡ [] → first ≡ n
+again_same before first n p e = by (bytes_eq first n) refl
+  where
+    by : (b : Bool) → bytes_eq first n ≡ b → first ≡ n
+    by true s = name_is first n s
+    by false s =
+        absurd (none_misplaced p n (kind_of before.scope n)
+        (sym (ap (λ (b : Bool). if b then [] else misplaced_faults p n (kind_of before.scope n)) s) ∙ e))

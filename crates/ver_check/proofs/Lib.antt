@@ -1,0 +1,10 @@
+pub mod AtomLists
+pub mod Blocks
+pub mod Faultless
+pub mod Firsts
+pub mod GrownScopes
+pub mod Operands
+pub mod PlacesBehind
+pub mod SidePlaces
+pub mod Undriven
+pub mod Widths

@@ -1,0 +1,16 @@
+pub mod Bytes
+pub mod Places
+pub mod Lengths
+pub mod Numbers
+pub mod Runs
+pub mod Prefixes
+pub mod FirstBytes
+pub mod NumberPieces
+pub mod ConstantPieces
+pub mod Standing
+pub mod CommentPieces
+pub mod SignPieces
+pub mod FrontPieces
+pub mod Ways
+pub mod Cuts
+pub mod OneCut

@@ -1,0 +1,8 @@
+-- What no clause of `run` reads: which tokens a text has, laws, views of the code and its states.
+pub mod Bytes
+pub mod Fronts
+pub mod View
+pub mod Ways
+pub mod Laws
+pub mod Lexed
+pub mod Lexemes
