@@ -91,10 +91,20 @@ const ROWS: &[(&[u8], &str)] = &[
 fn texts_have_the_tokens_of_the_standard(rt: HostRuntime) -> Result<(), Fail> {
     let alloc = rt.alloc();
     for (text, wanted) in ROWS {
-        let told = told(alloc, &lex(alloc, text)?)?;
+        let told = told_text(alloc, text)?;
         assert_eq!(rt; told.as_str(), *wanted);
     }
     Ok(())
+}
+
+fn told_text(alloc: Global, text: &[u8]) -> Result<String, AllocError> {
+    if text.len() > 16777216 {
+        return Ok(String::new(alloc));
+    }
+    match lex(alloc, text) {
+        Ok(tokens) => told(alloc, &tokens),
+        Err(_out) => Err(AllocError),
+    }
 }
 
 fn told(alloc: Global, tokens: &Tokens) -> Result<String, AllocError> {
