@@ -74,7 +74,7 @@ write_begins before first all ws more w ps f is e h =
     subst (λ (fs : List VFault). BeginsWith fs f) (sym (e ∙ ap (λ (x : List Write). more_writes_faults before first x ps) is))
     (begins_more f (next_write_faults before first w ps) (more_writes_faults before first more (behind (write_tokens w) ps)) h)
 
-none_misplaced : (p : VPlace) (n : List ℕ) (o : Option Kind) → misplaced_faults p n o ≡ [] → ⊥
+pub none_misplaced : (p : VPlace) (n : List ℕ) (o : Option Kind) → misplaced_faults p n o ≡ [] → ⊥
 none_misplaced p n None e = cc
 none_misplaced p n (Some k) e = cc
 

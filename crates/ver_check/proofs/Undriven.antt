@@ -18,7 +18,7 @@ use Rattle.ver_check.specs.working.Walks.{due_of, missing_faults}
 use Rattle.ver_check.proofs.Faultless.{first_empty, second_empty}
 use Rattle.std.proofs.lemmas.List.{append-nil, append_assoc}
 
-free_of : (p : VPlace) (n : List ℕ) (o : Option Driver) → driven_faults p n o ≡ [] → o ≡ None
+pub free_of : (p : VPlace) (n : List ℕ) (o : Option Driver) → driven_faults p n o ≡ [] → o ≡ None
 free_of p n None e = refl
 free_of p n (Some d) e = absurd (cc)
 

@@ -11,3 +11,4 @@ pub mod Judged
 pub mod Sides
 pub mod Blocks
 pub mod Walks
+pub mod Laws

@@ -2,7 +2,7 @@
 
 ghost use Rattle.std.specs.Prelude.{◌≡◌, ◌++◌, IfOk, [], ◌∷◌, List};
 ghost use Rattle.ver_fault.specs.working.Faults.{VFault};
-ghost use Rattle.ver_check.specs.working.FaultForms.{kind_fault, twice_fault, undeclared_fault, width_fault};
+ghost use Rattle.ver_check.specs.working.FaultForms.{twice_fault, undeclared_fault};
 ghost use Rattle.ver_check.specs.working.Findings.{Finds, IsFirst};
 
 use fir_base::{MemoryOut, Name, Refused};
