@@ -5,7 +5,7 @@ import re
 
 HEADING = b"circuit T :\n  module T :\n"
 COMMANDS = {"check": "check f.fir", "emit": "emit f.fir", "sim": "sim f.fir t",
-            "sim --state": "sim f.fir t --state"}
+            "sim --state": "sim f.fir t --state", "vsim": "vsim f.fir t"}
 # the kinds of the lines of a row, in their order
 ORDER = ["row:", "command", "text", "trace", "status", "out", "err"]
 MARKS = {"\\": b"\\", "n": b"\n", "r": b"\r", "t": b"\t", "s": b" "}
@@ -188,6 +188,8 @@ class Reader:
             raise Malformed("the row before has no status")
         if row.is_short and (row.text is None or row.words[0] == b"sim" and row.trace is None):
             raise Malformed("the row before wants a text, and sim a trace")
+        if row.is_short and row.words[0] == b"vsim" and row.trace is None:
+            row.trace = b""
 
 
 def read(path):

@@ -33,7 +33,12 @@ fn has_line(alloc: Global, items: Vec<Item>, wanted: &[u8]) -> Result<bool, Memo
     Ok(line.as_slice() == wanted)
 }
 
-fn port(alloc: Global, direction: Direction, width: u32, name: &[u8]) -> Result<Port, MemoryOut> {
+pub fn port(
+    alloc: Global,
+    direction: Direction,
+    width: u32,
+    name: &[u8],
+) -> Result<Port, MemoryOut> {
     Ok(Port {
         is_clock: false,
         direction,
@@ -42,7 +47,7 @@ fn port(alloc: Global, direction: Direction, width: u32, name: &[u8]) -> Result<
     })
 }
 
-fn net(alloc: Global, name: &[u8]) -> Result<Atom, MemoryOut> {
+pub fn net(alloc: Global, name: &[u8]) -> Result<Atom, MemoryOut> {
     Ok(Atom {
         form: AtomForm::Net(Name::new(alloc, name)?),
     })
@@ -65,7 +70,7 @@ fn beside(alloc: Global, one: Atom, two: Atom) -> Result<Atom, MemoryOut> {
     })
 }
 
-fn assign(alloc: Global, target: &[u8], rhs: Rhs) -> Result<Item, MemoryOut> {
+pub fn assign(alloc: Global, target: &[u8], rhs: Rhs) -> Result<Item, MemoryOut> {
     Ok(Item::Assign(Assign {
         target: Name::new(alloc, target)?,
         rhs,

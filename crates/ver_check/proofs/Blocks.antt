@@ -1,25 +1,24 @@
 -- Blocks that were judged.
 use Rattle.std.proofs.Common.{◌≡◌, ℕ, List, [], ◌∷◌, ◌++◌, Bool, true, false, refl, sym, ap, ◌∙◌, subst}
-use Rattle.std.specs.Prelude.{Option, Some, None, drop, option_map, codes, if◌then◌else◌}
+use Rattle.std.specs.Prelude.{Option, Some, None, option_map, if◌then◌else◌}
 use Rattle.std.specs.Str.{bytes_eq}
 use Rattle.ver_ast.specs.declared.place.VPlace.{VPlace}
 use Rattle.ver_ast.specs.declared.tree.Write.{Write}
-use Rattle.ver_ast.specs.Tokens.{VToken, word, sign, double}
-use Rattle.ver_ast.specs.Grammar.{atom_tokens, write_tokens}
+use Rattle.ver_ast.specs.Grammar.{write_tokens}
 use Rattle.ver_fault.specs.working.Faults.{VFault}
 use Rattle.ver_check.specs.declared.kind.Kind.{Kind}
 use Rattle.ver_check.specs.declared.scope.Entry.{Entry}
 use Rattle.ver_check.specs.declared.scope.Scope.{Scope as Names}
 use Rattle.ver_check.specs.working.FaultForms.{undeclared_fault, kind_fault}
 use Rattle.ver_check.specs.working.Scopes.{Declaration, Scope, declaration_of, kind_of}
-use Rattle.ver_check.specs.working.OperandFaults.{behind, name_faults, lacking_faults, places_in}
+use Rattle.ver_places.specs.working.Places.{behind}
+use Rattle.ver_check.specs.working.OperandFaults.{name_faults, lacking_faults}
 use Rattle.ver_check.specs.working.SideFaults.{misplaced_faults}
 use Rattle.ver_check.specs.working.ItemFaults.{Before, again_faults, more_writes_faults, next_write_faults}
 use Rattle.ver_check.specs.working.TreeFaults.{BeginsWith}
 use Rattle.ver_check.specs.working.Known.{Knows, found, entry_of}
 use Rattle.fir_base.proofs.SameNames.{name_is}
 use Rattle.ver_check.proofs.Firsts.{begins_more}
-use Rattle.ver_check.proofs.PlacesBehind.{behind_both, drop_one, drop_two}
 
 kinds : (o : Option Declaration) → option_map (λ (e : Entry). e.kind) (option_map entry_of o) ≡ option_map (λ (d : Declaration). d.kind) o
 kinds None = refl
@@ -39,25 +38,6 @@ pub lacking_begins : (bits : Kind → Option ℕ) (p : VPlace) (n : List ℕ) (o
     → o ≡ Some k → bits k ≡ None → BeginsWith (name_faults bits p n o ++ gs) (kind_fault p)
 lacking_begins bits p n o k gs e lacks =
     (gs, ap (λ (x : Option Kind). name_faults bits p n x ++ gs) e ∙ ap (λ (x : Option ℕ). lacking_faults p x ++ gs) lacks)
-
--- the places behind a write, by those behind its parts
-pub behind_write : (w : Write) (ps : List VPlace)
-    → behind (atom_tokens w.source) (behind (atom_tokens w.index) (drop 2 (behind (atom_tokens w.condition) (drop 1 ps)))) ≡ behind (write_tokens w) ps
-behind_write w ps =
-    ap (λ (qs : List VPlace). behind (atom_tokens w.source) (behind (atom_tokens w.index) (drop 2 qs))) (drop_one (places_in (atom_tokens w.condition)) ps)
-    ∙ ap (behind (atom_tokens w.source)) (drop_two (places_in (atom_tokens w.index)) (behind condition ps))
-    ∙ ap (behind source) (behind_both condition index ps)
-    ∙ behind_both (condition ++ index) source ps
-    ∙ behind_both (condition ++ index ++ source) (sign 59 ∷ []) ps
-  where
-    condition : List VToken
-    condition = word (codes "if") ∷ sign 40 ∷ atom_tokens w.condition
-
-    index : List VToken
-    index = sign 41 ∷ word w.array ∷ sign 91 ∷ atom_tokens w.index
-
-    source : List VToken
-    source = sign 93 ∷ double 60 61 ∷ atom_tokens w.source
 
 -- the writes from one on, behind others that have no fault
 pub next_writes : (before : Before) (first : List ℕ) (all : List VFault) (ws more : List Write) (w : Write) (ps qs : List VPlace)

@@ -1,5 +1,5 @@
 -- All that an assign has to drive has one exactly where nothing is undriven.
-use Rattle.std.proofs.Common.{◌≡◌, ℕ, List, [], ◌∷◌, ◌++◌, map, flat_map, Bool, true, false, not, ◌&&◌, if◌then◌else◌, refl, sym, ap, ◌∙◌, inl, inr, ⊎_elim, subst}
+use Rattle.std.proofs.Common.{◌≡◌, ℕ, List, [], ◌∷◌, map, flat_map, Bool, true, false, not, ◌&&◌, if◌then◌else◌, refl, sym, ap, ◌∙◌, inl, inr, ⊎_elim, subst}
 use Rattle.std.specs.List.{AllByRecursion}
 use Rattle.std.proofs.lemmas.Bool.{not-false}
 use Rattle.fir_base.specs.Lists.{In}
@@ -17,7 +17,6 @@ use Rattle.ver_valid.specs.declared.declared.Declared.TheVariants.{Wire}
 use Rattle.ver_valid.specs.working.Declarations.{Entry, entries, item_entries, kind_of as port_kind_of, port_entry}
 use Rattle.ver_valid.specs.working.Walks.{IsItemDriven, IsOutputDriven, IsPortDriven, assigned_names}
 use Rattle.ver_check.specs.working.FaultForms.{undriven_fault}
-use Rattle.ver_check.specs.declared.kind.Kind.{Kind}
 use Rattle.ver_check.specs.working.Scopes.{Declaration, is_driven}
 use Rattle.ver_check.specs.working.ItemFaults.{Before}
 use Rattle.ver_check.specs.working.TreeFaults.{is_assigned, undriven_of}

@@ -14,20 +14,22 @@ use Rattle.ver_ast.specs.AtomForms.{constant_number}
 use Rattle.ver_ast.specs.AtomWidths.{atom_width}
 use Rattle.ver_ast.specs.Grammar.{atom_tokens, write_tokens}
 use Rattle.ver_ast.specs.Nets.{clocks, first_array, nets, plain_block, regs, resetting_block, writing_block}
-use Rattle.ver_ast.specs.Valid.{AreWrites, IsEdge, IsResetting, IsWrite}
+use Rattle.ver_ast.specs.Valid.{AreWrites, IsEdge, IsWrite}
 use Rattle.ver_valid.specs.working.Scopes.{HasArray, IsFine}
 use Rattle.ver_valid.specs.working.Walks.{IsNextBlock, written_names}
-use Rattle.ver_check.specs.working.Scopes.{Scope, bits_of, kind_bits, kind_of, register_bits, word_bits}
-use Rattle.ver_check.specs.working.OperandFaults.{atom_faults, behind, is_constant_fit, name_faults, own_faults, place_at, width_faults}
+use Rattle.ver_check.specs.working.Scopes.{Scope, bits_of, kind_of, register_bits, word_bits}
+use Rattle.ver_places.specs.working.Places.{behind, place_at}
+use Rattle.ver_check.specs.working.OperandFaults.{atom_faults, is_constant_fit, name_faults, own_faults}
 use Rattle.ver_check.specs.working.SideFaults.{clock_faults}
-use Rattle.ver_check.specs.working.ItemFaults.{Before, again_faults, always_faults, at_array, driven_faults, driver_of, edge_faults, first_write_faults, more_writes_faults, next_write_faults, register_faults, reset_faults, resetting_faults, resetting_faults_by, tested_faults, writes_faults, writing_faults, written_faults}
+use Rattle.ver_check.specs.working.ItemFaults.{Before, always_faults, at_array, driven_faults, driver_of, more_writes_faults, register_faults, reset_faults, resetting_faults, resetting_faults_by, tested_faults, writes_faults, writing_faults, written_faults}
 use Rattle.ver_check.specs.working.Laws.{IsShallowAtom, IsShallowEdge, IsShallowWrite}
 use Rattle.ver_check.proofs.Blocks.{again_same}
 use Rattle.ver_check.proofs.DriverNames.{not_driven, only_target}
 use Rattle.ver_check.proofs.Faultless.{first_empty, second_empty}
-use Rattle.ver_check.proofs.OwnFaults.{IsMet, constant_is, named_bits, own_fit, own_met, width_met}
+use Rattle.ver_check.proofs.OwnFaults.{IsMet, constant_is, named_bits, own_fit}
 use Rattle.ver_check.proofs.FaultlessOperands.{faultless_operand}
 use Rattle.ver_check.proofs.FaultlessSides.{faultless_clock, of_width, operand_of}
+use Rattle.ver_check.proofs.ReadNames.{register_known, reset_bits, target_bits}
 use Rattle.ver_check.proofs.Mirrors.{Mirrors, bits_net, bits_register, bits_word, clock_in}
 
 module _ (before : Before) (v : Verilog) (mirrors : Mirrors before v) (fine : IsFine v) where
@@ -44,7 +46,7 @@ module _ (before : Before) (v : Verilog) (mirrors : Mirrors before v) (fine : Is
   a_register : (n : List ℕ) (p : VPlace) → register_faults before n p ≡ []
       → (w : ℕ) × (bits_of register_bits scope n ≡ Some w) × In (regs v) (n, w) × (In (written_names v) n → ⊥)
   a_register n p e =
-      let r = named_bits register_bits p n (kind_of scope n) (first_empty _ (driven_faults p n (driver_of before.written n)) e) in (
+      let r = register_known before n p e in (
         r.0,
         r.1,
         bits_register before v mirrors fine n r.0 r.1,
@@ -78,12 +80,7 @@ module _ (before : Before) (v : Verilog) (mirrors : Mirrors before v) (fine : Is
     free : In (written_names v) b.target → ⊥
 
   a_reset : (n : List ℕ) (p : VPlace) → reset_faults before n p ≡ [] → In (nets v) (n, 1)
-  a_reset n p e =
-      let r = named_bits kind_bits p n (kind_of scope n) (first_empty _ (width_faults (Some 1) (bits_of kind_bits scope n) p) e) in
-      let one : r.0 ≡ 1 =
-      width_met (Some 1) r.0 p
-      (subst (λ (o : Option ℕ). width_faults (Some 1) o p ≡ []) r.1 (second_empty (name_faults kind_bits p n (kind_of scope n)) _ e)) in
-      bits_net before v mirrors fine n 1 (r.1 ∙ ap (λ (x : ℕ). Some x) one)
+  a_reset n p e = bits_net before v mirrors fine n 1 (reset_bits before n p e)
 
   tested_block : (b : Resetting) (ps : List VPlace) → tested_faults before b ps ≡ [] → IsTested b
   tested_block b ps e =
@@ -93,12 +90,10 @@ module _ (before : Before) (v : Verilog) (mirrors : Mirrors before v) (fine : Is
       let needed = bits_of register_bits scope b.target in
       let fit = is_constant_fit b.value.width (constant_number b.value) in
       let own : own_faults needed (Some b.value.width) fit (place_at 4 ps) ≡ [] = second_empty _ _ e in
-      let met = own_met needed (Some b.value.width) fit (place_at 4 ps) b.value.width refl own in
-      let wide : b.value.width ≡ r.0 = subst (λ (o : Option ℕ). IsMet o b.value.width) r.1 met in
       record {
         bit = a_reset b.reset (place_at 0 ps) (first_empty _ _ first);
         one_reset = sym (again_same before b.reset b.tested (place_at 2 ps) (second_empty _ _ first));
-        bits = r.1 ∙ ap (λ (x : ℕ). Some x) (sym wide);
+        bits = target_bits before b ps e;
         fits = (constant_is b.value.width (constant_number b.value) (own_fit needed (Some b.value.width) fit (place_at 4 ps) own)).1;
         free = r.3;
       }

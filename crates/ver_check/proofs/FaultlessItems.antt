@@ -1,6 +1,6 @@
 -- A port and an item without a fault are such as the next of a valid tree.
-use Rattle.std.proofs.Common.{◌≡◌, ℕ, ◌+◌, ◌≤◌, List, [], ◌∷◌, ◌++◌, Bool, true, false, refl, sym, ap, ◌∙◌, inl, inr, subst, arith}
-use Rattle.std.specs.Prelude.{Option, Some, None, drop, nat_eq, nat_lt, option_map, if◌then◌else◌, IsTrue}
+use Rattle.std.proofs.Common.{◌≡◌, ℕ, ◌+◌, ◌≤◌, List, [], ◌∷◌, Bool, true, false, refl, ap, inl, inr, subst}
+use Rattle.std.specs.Prelude.{Option, Some, None, drop, nat_eq, option_map, if◌then◌else◌, IsTrue}
 use Rattle.std.proofs.lemmas.Bool.{eqb-true, ltb-false}
 use Rattle.fir_base.specs.Lists.{In}
 use Rattle.fir_base.specs.declared.direction.Direction.{Direction}
@@ -12,23 +12,27 @@ use Rattle.ver_ast.specs.declared.tree.Array.{Array}
 use Rattle.ver_ast.specs.declared.tree.Assign.{Assign}
 use Rattle.ver_ast.specs.declared.tree.Item.{Item}
 use Rattle.ver_ast.specs.declared.tree.Item.TheVariants as item
-use Rattle.ver_ast.specs.Nets.{arrays}
+use Rattle.ver_ast.specs.declared.tree.Write.{Write}
+use Rattle.ver_ast.specs.Nets.{arrays, first_array}
 use Rattle.ver_valid.specs.working.Declarations.{IsNarrow, IsNarrowKind, kind_of as port_kind_of}
 use Rattle.ver_valid.specs.working.Scopes.{IsFine, driven_nets}
-use Rattle.ver_valid.specs.working.Walks.{IsFresh, IsNextAssign, IsNextItem, IsNextNet, IsNextPort, assigned_names, words_of}
+use Rattle.ver_valid.specs.working.Walks.{IsFresh, IsNextAssign, IsNextItem, IsNextNet, IsNextPort, assigned_names, words_of, written_names}
 use Rattle.ver_check.specs.working.FaultForms.{kind_fault}
 use Rattle.ver_check.specs.declared.kind.Kind.{Kind}
 use Rattle.ver_check.specs.declared.kind.Kind.TheVariants as kind
 use Rattle.ver_check.specs.working.Scopes.{Declaration, Scope, declaration_of, kind_of}
-use Rattle.ver_check.specs.working.OperandFaults.{is_narrow, place_at}
-use Rattle.ver_check.specs.working.SideFaults.{clock_side_faults, side_faults, truth_faults}
-use Rattle.ver_check.specs.working.ItemFaults.{Before, array_faults, assign_faults, assign_faults_by, clock_assign_faults, clock_port_faults, declared_faults, driven_faults, driver_of, item_faults, named_faults, net_assign_faults, no_range_faults, port_faults, range_faults, range_places}
+use Rattle.ver_places.specs.working.Places.{nowhere, place_at, range_places}
+use Rattle.ver_check.specs.working.OperandFaults.{is_narrow}
+use Rattle.ver_check.specs.working.SideFaults.{clock_side_faults, truth_faults}
+use Rattle.ver_check.specs.working.ItemFaults.{Before, array_faults, assign_faults, assign_faults_by, clock_port_faults, declared_faults, driven_faults, driver_of, item_faults, named_faults, net_assign_faults, no_range_faults, port_faults, range_faults, register_faults, writes_faults}
 use Rattle.ver_check.specs.working.Laws.{IsShallowItem}
-use Rattle.ver_check.proofs.DriverNames.{not_driven}
+use Rattle.ver_check.proofs.DriverNames.{not_driven, only_target}
 use Rattle.ver_check.proofs.Faultless.{first_empty, second_empty}
 use Rattle.ver_check.proofs.OwnFaults.{narrow_is, tested, untested}
 use Rattle.ver_check.proofs.FaultlessSides.{faultless_clock_side, faultless_rhs}
 use Rattle.ver_check.proofs.FaultlessBlocks.{faultless_plain, faultless_resetting, faultless_writing}
+use Rattle.ver_check.proofs.StepsBehind.{IsNew}
+use Rattle.ver_check.proofs.Undriven.{free_of, reset_free, write_free}
 use Rattle.ver_check.proofs.Mirrors.{Mirrors, clock_output_in, fresh_in, output_in, wire_in}
 
 undeclared : (p : VPlace) (n : List ℕ) (o : Option Declaration) → declared_faults p n o ≡ [] → option_map (λ (d : Declaration). d.kind) o ≡ None
@@ -79,6 +83,41 @@ module _ (before : Before) (v : Verilog) (mirrors : Mirrors before v) (fine : Is
 
   not_assigned : (n : List ℕ) (p : VPlace) → driven_faults p n (driver_of before.assigned n) ≡ [] → In (assigned_names v) n → ⊥
   not_assigned n p e = not_driven before.assigned (assigned_names v) mirrors.assigned n p e
+
+  not_written : (n : List ℕ) → driver_of before.written n ≡ None → (m : List ℕ) → In (n ∷ []) m → In (written_names v) m → ⊥
+  not_written n e m i =
+      only_target (written_names v) n m (not_driven before.written (written_names v) mirrors.written n nowhere (ap (driven_faults nowhere n) e)) i
+
+  -- what an assign of each kind of target drives
+  new_by_kind : (a : Assign) (ps : List VPlace) (n : List ℕ) (k : Kind) (q : VPlace)
+      → assign_faults_by before (Some (record { name = n; kind = k; place = q })) a ps ≡ [] → In (assigned_names v) a.target → ⊥
+  new_by_kind a ps n kind.ClockInput q e = absurd (cc)
+  new_by_kind a ps n kind.ClockOutput q e = not_assigned a.target (place_at 1 ps) (first_empty _ (clock_side_faults scope a.rhs (place_at 2 ps)) e)
+  new_by_kind a ps n (kind.Input w) q e = absurd (cc)
+  new_by_kind a ps n (kind.Output w) q e = not_assigned a.target (place_at 1 ps) (second_empty (truth_faults w a.rhs (place_at 1 ps)) _ (first_empty _ _ e))
+  new_by_kind a ps n (kind.Wire w) q e = not_assigned a.target (place_at 1 ps) (second_empty (truth_faults w a.rhs (place_at 1 ps)) _ (first_empty _ _ e))
+  new_by_kind a ps n (kind.Register w) q e = absurd (cc)
+  new_by_kind a ps n (kind.Array w) q e = absurd (cc)
+
+  new_by : (a : Assign) (ps : List VPlace) (o : Option Declaration) → assign_faults_by before o a ps ≡ [] → In (assigned_names v) a.target → ⊥
+  new_by a ps None e = absurd (cc)
+  new_by a ps (Some d) e = new_by_kind a ps d.name d.kind d.place e
+
+  new_writes : (ws : List Write) (ps : List VPlace) → writes_faults before ws ps ≡ [] → (n : List ℕ) → In (first_array ws) n → In (written_names v) n → ⊥
+  new_writes [] ps e n m k = m
+  new_writes (w ∷ ws) ps e n m k = not_written w.array (write_free before w ws ps e) n m k
+
+  pub new_item : (i : Item) (ps : List VPlace) → item_faults before i ps ≡ [] → IsNew v i
+  new_item (item.Wire n) ps e = a_net n.width n.name ps e
+  new_item (item.Reg n) ps e = a_net n.width n.name ps e
+  new_item (item.Array a) ps e = an_array a ps e
+  new_item (item.Assign a) ps e = new_by a ps (declaration_of scope a.target) e
+  new_item (item.Always b) ps e =
+      let p = place_at 3 ps in
+      let register : register_faults before b.target p ≡ [] = second_empty _ _ (first_empty _ _ e) in
+      not_written b.target (free_of p b.target (driver_of before.written b.target) (second_empty _ _ register))
+  new_item (item.Resetting b) ps e = not_written b.target (reset_free before b ps e)
+  new_item (item.Writing b) ps e = new_writes b.writes (drop 4 ps) (second_empty _ _ e)
 
   module _ (a : Assign) (ps : List VPlace) (s : IsShallowItem (item.Assign a)) where
     abbrev IsNext : Type 0

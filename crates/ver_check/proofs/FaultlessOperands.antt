@@ -1,6 +1,6 @@
 -- An operand without a fault is sound, and has as many bits as are needed.
-use Rattle.std.proofs.Common.{◌≡◌, ℕ, zero, suc, ◌+◌, ◌-◌, ◌*◌, ◌<◌, ◌≤◌, List, [], Bool, true, refl, sym, ap, ◌∙◌, subst, arith}
-use Rattle.std.specs.Prelude.{Option, Some, None, drop, nat_lt, option_map, if◌then◌else◌}
+use Rattle.std.proofs.Common.{◌≡◌, ℕ, zero, suc, ◌+◌, ◌-◌, ◌*◌, ◌≤◌, List, [], Bool, true, refl, sym, ap, ◌∙◌, subst, arith}
+use Rattle.std.specs.Prelude.{Option, Some, None, drop, option_map, if◌then◌else◌}
 use Rattle.std.proofs.lemmas.Bool.{le-ltb}
 use Rattle.ver_ast.specs.declared.place.VPlace.{VPlace}
 use Rattle.ver_ast.specs.declared.tree.Verilog.{Verilog}
@@ -13,7 +13,8 @@ use Rattle.ver_valid.specs.working.Declarations.{IsNarrow}
 use Rattle.ver_valid.specs.working.Scopes.{IsFine}
 use Rattle.ver_valid.proofs.Fine.{fine_narrow, fine_width}
 use Rattle.ver_check.specs.working.Scopes.{Scope, kind_bits, kind_of, bits_of}
-use Rattle.ver_check.specs.working.OperandFaults.{are_narrow, atom_bits, atom_faults, behind, is_fit, is_within, joined_bits, joined_faults, net_faults, place_at, sum_of}
+use Rattle.ver_places.specs.working.Places.{behind, place_at}
+use Rattle.ver_check.specs.working.OperandFaults.{are_narrow, atom_bits, atom_faults, is_within, joined_bits, joined_faults, net_faults, sum_of}
 use Rattle.ver_check.specs.working.ItemFaults.{Before}
 use Rattle.ver_check.proofs.Faultless.{first_empty, second_empty}
 use Rattle.ver_check.proofs.OwnFaults.{IsMet, constant_is, named_bits, narrow_is, own_fit, own_met, within_is}

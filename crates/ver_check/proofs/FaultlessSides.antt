@@ -1,5 +1,5 @@
 -- A right side without a fault is sound beside its target, and that of a clock output shows a clock.
-use Rattle.std.proofs.Common.{◌≡◌, ℕ, List, [], Bool, true, false, refl, sym, ap, ◌∙◌, subst}
+use Rattle.std.proofs.Common.{◌≡◌, ℕ, List, [], true, refl, ap, ◌∙◌, subst}
 use Rattle.std.specs.Prelude.{Option, Some, None, drop, nat_eq}
 use Rattle.std.specs.List.{AllByRecursion}
 use Rattle.std.proofs.lemmas.Bool.{and_parts, eqb-true}
@@ -11,15 +11,16 @@ use Rattle.ver_ast.specs.Atoms.{AtomTree, net, constant, bit_select, part_select
 use Rattle.ver_ast.specs.AtomWidths.{atom_width}
 use Rattle.ver_ast.specs.Grammar.{atom_tokens}
 use Rattle.ver_ast.specs.Names.{rhs_atoms}
-use Rattle.ver_ast.specs.Nets.{SizedNet, arrays, nets}
-use Rattle.ver_ast.specs.SoundSides.{IsOperand, HasWidth, IsSoundSide, binary_rule, shift, signed_rule}
+use Rattle.ver_ast.specs.Nets.{arrays, nets}
+use Rattle.ver_ast.specs.SoundSides.{IsOperand, HasWidth, IsSoundSide, binary_rule, signed_rule}
 use Rattle.ver_ast.specs.Valid.{IsClockSide}
 use Rattle.ver_valid.specs.working.Scopes.{IsFine}
 use Rattle.ver_check.specs.working.FaultForms.{kind_fault}
 use Rattle.ver_check.specs.declared.kind.Kind.{Kind}
 use Rattle.ver_check.specs.declared.kind.Kind.TheVariants as kind
 use Rattle.ver_check.specs.working.Scopes.{Scope, is_clock_input, kind_of, word_bits, bits_of}
-use Rattle.ver_check.specs.working.OperandFaults.{atom_bits, atom_faults, behind, name_faults, place_at, width_faults}
+use Rattle.ver_places.specs.working.Places.{behind, place_at}
+use Rattle.ver_check.specs.working.OperandFaults.{atom_bits, atom_faults, name_faults, width_faults}
 use Rattle.ver_check.specs.working.SideFaults.{clock_faults, clock_side_faults, first_needs, is_truth, misplaced_atom, second_needs, side_faults, signed_faults, truth_faults, unary_needs}
 use Rattle.ver_check.specs.working.ItemFaults.{Before}
 use Rattle.ver_check.specs.working.Laws.{IsShallowAtom}

@@ -6,17 +6,17 @@ use Rattle.ver_ast.specs.Valid.{IsOrder, Valid}
 use Rattle.ver_valid.specs.working.Walks.{AreNextItems, AreNextPorts, IsWalked, no_items, no_ports}
 use Rattle.ver_valid.proofs.FromWalk.{valid_from}
 use Rattle.ver_valid.proofs.ToWalk.{walked_from}
-use Rattle.ver_check.specs.working.ItemFaults.{Before}
-use Rattle.ver_check.specs.working.TreeFaults.{before_items, behind_all, item_places, items_faults, misfits, nothing_before, port_places, ports_faults, undriven}
+use Rattle.ver_places.specs.working.Places.{item_places, port_places}
+use Rattle.ver_check.specs.working.TreeFaults.{before_items, behind_all, items_faults, misfits, nothing_before, ports_faults, undriven}
 use Rattle.ver_check.specs.working.Laws.{IsShallow}
-use Rattle.ver_check.proofs.DueNames.{AreDriven, all_driven, due_driven, none_undriven, outputs_driven, wires_driven}
+use Rattle.ver_check.proofs.DueNames.{all_driven, due_driven, none_undriven, outputs_driven, wires_driven}
 use Rattle.ver_check.proofs.Faultless.{first_empty, second_empty}
 use Rattle.ver_check.proofs.OwnFaults.{none_of_both}
 use Rattle.ver_check.proofs.StepsBehind.{Stands}
 use Rattle.ver_check.proofs.WalksBehind.{faultless_items, faultless_ports, sound_items, sound_ports, stands_first, stands_items, stands_ports}
 
 module _ (v : Verilog) where
-  behind_ports : AreNextPorts (no_ports v) v.ports → Stands (before_items v) (no_items v)
+  pub behind_ports : AreNextPorts (no_ports v) v.ports → Stands (before_items v) (no_items v)
   behind_ports h = stands_ports nothing_before (no_ports v) v.ports (port_places v) refl (stands_first v) h
 
   behind_whole : AreNextPorts (no_ports v) v.ports → AreNextItems (no_items v) v.items → Stands (behind_all v) v

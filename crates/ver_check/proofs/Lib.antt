@@ -1,11 +1,8 @@
-pub mod AtomLists
 pub mod Blocks
 pub mod Faultless
 pub mod Firsts
 pub mod GrownScopes
 pub mod Operands
-pub mod PlacesBehind
-pub mod SidePlaces
 pub mod Undriven
 pub mod Widths
 pub mod Mirrors
@@ -24,3 +21,6 @@ pub mod StepsBehind
 pub mod WalksBehind
 pub mod DueNames
 pub mod FaultlessTrees
+pub mod ShallowTrees
+pub mod ReadNames
+pub mod FaultlessProcesses

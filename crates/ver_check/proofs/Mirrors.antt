@@ -1,5 +1,5 @@
 -- What stands before an item, beside the tree that it stands in: the same names, kinds, drivers and words.
-use Rattle.std.proofs.Common.{◌≡◌, ℕ, ◌+◌, List, [], ◌∷◌, ◌++◌, map, flat_map, Bool, true, false, if◌then◌else◌, refl, sym, ap, ◌∙◌, inl, inr, ◌⊎◌, ⊎_elim, subst}
+use Rattle.std.proofs.Common.{◌≡◌, ℕ, ◌+◌, List, [], ◌∷◌, map, Bool, true, false, if◌then◌else◌, refl, sym, ap, ◌∙◌, inl, inr, ◌⊎◌, ⊎_elim, subst}
 use Rattle.std.specs.Prelude.{Option, Some, None, option_map}
 use Rattle.std.specs.Str.{bytes_eq}
 use Rattle.std.proofs.lemmas.Option.{none-some}
@@ -11,11 +11,11 @@ use Rattle.ver_ast.specs.Nets.{SizedNet, Variable, clocks, output_clocks, nets, 
 use Rattle.ver_valid.specs.declared.declared.Declared.{Declared}
 use Rattle.ver_valid.specs.declared.declared.Declared.TheVariants.{ClockInput, ClockOutput, Input, Output, Wire, Register, Array}
 use Rattle.ver_valid.specs.working.Declarations.{Entry, entries, entry_names, kind_among}
-use Rattle.ver_valid.specs.working.Kinds.{net_width, register_width, output_width, wire_width, word_width, is_clock_input as clock_input_test, is_clock_output, sized, array_of, array_entry}
+use Rattle.ver_valid.specs.working.Kinds.{net_width, register_width, output_width, wire_width, word_width, is_clock_input as clock_input_test, is_clock_output, array_of, array_entry}
 use Rattle.ver_valid.specs.working.Scopes.{IsFine, HasArray, driven_nets}
 use Rattle.ver_valid.specs.working.Walks.{IsFresh, assigned_names, written_names, words_of}
 use Rattle.ver_valid.proofs.Entries.{nets_are, regs_are, wires_are, outputs_are, clocks_are, output_clocks_are, arrays_are}
-use Rattle.ver_valid.proofs.EntryKinds.{Sized, sized_kind, kind_sized, Chosen, kind_chosen, chosen_kind, kind_in, kind_of_entry, known_or_not}
+use Rattle.ver_valid.proofs.EntryKinds.{Sized, sized_kind, kind_sized, kind_chosen, chosen_kind, kind_in, kind_of_entry, known_or_not}
 use Rattle.ver_check.specs.declared.kind.Kind.{Kind}
 use Rattle.ver_check.specs.declared.kind.Kind.TheVariants as kind
 use Rattle.ver_check.specs.working.Scopes.{Declaration, Scope, declaration_of, kind_of, kind_bits, register_bits, word_bits, found_by, bits_of}

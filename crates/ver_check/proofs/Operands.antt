@@ -6,10 +6,11 @@ use Rattle.ver_ast.specs.declared.place.VPlace.{VPlace}
 use Rattle.ver_ast.specs.Atoms.{AtomTree, AtomTrees, atom_before}
 use Rattle.ver_ast.specs.Grammar.{atom_tokens, next_atom_tokens}
 use Rattle.ver_check.specs.working.Scopes.{Scope}
-use Rattle.ver_check.specs.working.OperandFaults.{behind, sum_of, atom_bits, atom_faults, joined_bits, joined_faults}
+use Rattle.ver_places.specs.working.Places.{behind}
+use Rattle.ver_check.specs.working.OperandFaults.{sum_of, atom_bits, atom_faults, joined_bits, joined_faults}
 use Rattle.ver_check.specs.declared.operand.Judged.{Judged}
 use Rattle.ver_check.specs.working.Judged.{IsAmid, IsBeside, IsJudged}
-use Rattle.ver_check.proofs.PlacesBehind.{behind_both}
+use Rattle.ver_places.proofs.PlacesBehind.{behind_both}
 
 sum_assoc : (a b c : Option ℕ) → sum_of a (sum_of b c) ≡ sum_of (sum_of a b) c
 sum_assoc None b c = refl

@@ -1,5 +1,5 @@
 -- A sound block that writes what no block before it writes has no fault.
-use Rattle.std.proofs.Common.{◌≡◌, ℕ, List, [], ◌∷◌, Bool, true, refl, sym, ap, ◌∙◌, inl, subst}
+use Rattle.std.proofs.Common.{◌≡◌, ℕ, List, [], ◌∷◌, Bool, refl, sym, ap, ◌∙◌, inl, subst}
 use Rattle.std.specs.Prelude.{Option, Some, None, drop, if◌then◌else◌}
 use Rattle.std.specs.List.{AllByRecursion}
 use Rattle.std.specs.Str.{bytes_eq}
@@ -14,19 +14,19 @@ use Rattle.ver_ast.specs.declared.tree.Write.{Write}
 use Rattle.ver_ast.specs.declared.tree.Writing.{Writing}
 use Rattle.ver_ast.specs.Atoms.{AtomTree}
 use Rattle.ver_ast.specs.AtomForms.{constant_number}
-use Rattle.ver_ast.specs.AtomWidths.{atom_width}
 use Rattle.ver_ast.specs.Grammar.{atom_tokens, write_tokens}
 use Rattle.ver_ast.specs.Nets.{clocks, first_array, nets, plain_block, regs, resetting_block, writing_block}
 use Rattle.ver_ast.specs.SoundSides.{HasWidth}
-use Rattle.ver_ast.specs.Valid.{AreWrites, IsEdge, IsPlain, IsResetting, IsWrite}
+use Rattle.ver_ast.specs.Valid.{AreWrites, IsEdge, IsResetting, IsWrite}
 use Rattle.ver_ast.proofs.Nets.{reg_is_net}
-use Rattle.ver_valid.specs.working.Scopes.{HasArray, IsFine}
+use Rattle.ver_valid.specs.working.Scopes.{IsFine}
 use Rattle.ver_valid.specs.working.Walks.{IsNextBlock, written_names}
 use Rattle.ver_valid.proofs.Fine.{fine_narrow}
 use Rattle.ver_check.specs.working.Scopes.{Scope, bits_of, kind_bits, kind_of, register_bits, word_bits}
-use Rattle.ver_check.specs.working.OperandFaults.{atom_faults, behind, is_constant_fit, name_faults, own_faults, place_at, width_faults}
+use Rattle.ver_places.specs.working.Places.{behind, place_at}
+use Rattle.ver_check.specs.working.OperandFaults.{atom_faults, is_constant_fit, width_faults}
 use Rattle.ver_check.specs.working.SideFaults.{clock_faults, misplaced_faults}
-use Rattle.ver_check.specs.working.ItemFaults.{Before, again_faults, always_faults, at_array, driven_faults, driver_of, edge_faults, first_write_faults, more_writes_faults, next_write_faults, register_faults, reset_faults, resetting_faults, resetting_faults_by, tested_faults, writes_faults, writing_faults, written_faults}
+use Rattle.ver_check.specs.working.ItemFaults.{Before, again_faults, always_faults, at_array, driven_faults, driver_of, more_writes_faults, register_faults, reset_faults, resetting_faults, resetting_faults_by, tested_faults, writes_faults, writing_faults, written_faults}
 use Rattle.ver_check.proofs.DriverNames.{none_driven}
 use Rattle.ver_check.proofs.OwnFaults.{IsMet, bits_named, constant_fits, met_width, none_of_both, own_none}
 use Rattle.ver_check.proofs.SoundSides.{none_at, none_wide, sound_clock}

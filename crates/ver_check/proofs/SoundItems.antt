@@ -1,6 +1,6 @@
 -- A port and an item that are such as the next of a valid tree have no fault.
-use Rattle.std.proofs.Common.{◌≡◌, ℕ, ◌+◌, ◌≤◌, List, [], ◌∷◌, ◌++◌, Bool, true, false, refl, sym, ap, ◌∙◌, inl, inr, ◌⊎◌, ⊎_elim, subst, arith}
-use Rattle.std.specs.Prelude.{Option, Some, None, drop, nat_eq, nat_lt, option_map, if◌then◌else◌, IsTrue}
+use Rattle.std.proofs.Common.{◌≡◌, ℕ, ◌+◌, ◌≤◌, List, [], ◌∷◌, Bool, true, false, refl, sym, ap, inl, inr, ⊎_elim, subst}
+use Rattle.std.specs.Prelude.{Option, Some, None, drop, option_map, if◌then◌else◌}
 use Rattle.std.proofs.lemmas.Bool.{eq-eqb, le-ltb}
 use Rattle.fir_base.specs.Lists.{In}
 use Rattle.fir_base.specs.declared.direction.Direction.{Direction}
@@ -12,18 +12,18 @@ use Rattle.ver_ast.specs.declared.tree.Array.{Array}
 use Rattle.ver_ast.specs.declared.tree.Assign.{Assign}
 use Rattle.ver_ast.specs.declared.tree.Item.{Item}
 use Rattle.ver_ast.specs.declared.tree.Item.TheVariants as item
-use Rattle.ver_ast.specs.Nets.{arrays, nets, output_clocks}
+use Rattle.ver_ast.specs.Nets.{arrays, nets}
 use Rattle.ver_ast.specs.SoundSides.{IsSoundSide}
 use Rattle.ver_ast.specs.Valid.{IsClockSide}
 use Rattle.ver_valid.specs.working.Declarations.{IsNarrow, IsNarrowKind, kind_of as port_kind_of}
-use Rattle.ver_valid.specs.working.Scopes.{IsFine, driven_nets}
+use Rattle.ver_valid.specs.working.Scopes.{IsFine}
 use Rattle.ver_valid.specs.working.Walks.{IsFresh, IsNextAssign, IsNextItem, IsNextNet, IsNextPort, assigned_names, words_of}
 use Rattle.ver_check.specs.working.FaultForms.{kind_fault}
 use Rattle.ver_check.specs.declared.kind.Kind.{Kind}
 use Rattle.ver_check.specs.declared.kind.Kind.TheVariants as kind
 use Rattle.ver_check.specs.working.Scopes.{Declaration, Scope, declaration_of, kind_of}
-use Rattle.ver_check.specs.working.OperandFaults.{is_narrow, place_at}
-use Rattle.ver_check.specs.working.ItemFaults.{Before, array_faults, assign_faults, assign_faults_by, clock_port_faults, declared_faults, driven_faults, driver_of, item_faults, named_faults, net_assign_faults, port_faults, range_places}
+use Rattle.ver_places.specs.working.Places.{place_at, range_places}
+use Rattle.ver_check.specs.working.ItemFaults.{Before, array_faults, assign_faults, assign_faults_by, clock_port_faults, declared_faults, driven_faults, driver_of, item_faults, named_faults, net_assign_faults, port_faults}
 use Rattle.ver_check.proofs.DriverNames.{none_driven}
 use Rattle.ver_check.proofs.OwnFaults.{is_narrow_from, none_of_both}
 use Rattle.ver_check.proofs.SoundSides.{sound_clock_side, sound_side, sound_truth}

@@ -1,6 +1,6 @@
 -- A sound operand that has as many bits as are needed has no fault.
-use Rattle.std.proofs.Common.{◌≡◌, ℕ, zero, suc, ◌+◌, ◌-◌, ◌*◌, ◌<◌, ◌≤◌, List, [], Bool, true, refl, sym, ap, ◌∙◌, subst, arith}
-use Rattle.std.specs.Prelude.{Option, Some, None, drop, nat_lt, option_map, if◌then◌else◌}
+use Rattle.std.proofs.Common.{◌≡◌, ℕ, zero, suc, ◌+◌, ◌-◌, ◌*◌, ◌≤◌, List, [], Bool, true, refl, ap, ◌∙◌, arith}
+use Rattle.std.specs.Prelude.{Option, Some, None, drop, option_map, if◌then◌else◌}
 use Rattle.std.proofs.lemmas.Bool.{le-ltb}
 use Rattle.ver_ast.specs.declared.place.VPlace.{VPlace}
 use Rattle.ver_ast.specs.declared.tree.Verilog.{Verilog}
@@ -13,7 +13,8 @@ use Rattle.ver_valid.specs.working.Declarations.{IsNarrow}
 use Rattle.ver_valid.specs.working.Scopes.{IsFine}
 use Rattle.ver_valid.proofs.Fine.{fine_narrow, width_of_net}
 use Rattle.ver_check.specs.working.Scopes.{Scope, kind_bits, kind_of, bits_of}
-use Rattle.ver_check.specs.working.OperandFaults.{are_narrow, atom_bits, atom_faults, behind, is_fit, is_within, joined_bits, joined_faults, net_faults, place_at, whole_faults}
+use Rattle.ver_places.specs.working.Places.{behind, place_at}
+use Rattle.ver_check.specs.working.OperandFaults.{are_narrow, atom_bits, atom_faults, is_fit, is_within, joined_bits, joined_faults, net_faults, whole_faults}
 use Rattle.ver_check.specs.working.ItemFaults.{Before}
 use Rattle.ver_check.proofs.OwnFaults.{IsMet, bits_named, constant_fits, is_narrow_from, none_of_both, own_none, within_from}
 use Rattle.ver_check.proofs.FaultlessOperands.{sum_is}

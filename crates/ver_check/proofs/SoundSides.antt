@@ -1,5 +1,5 @@
 -- A right side that is sound beside its target has no fault, nor has a clock that a clock output shows.
-use Rattle.std.proofs.Common.{◌≡◌, ℕ, List, [], ◌∷◌, Bool, true, false, refl, sym, ap, ◌∙◌, subst}
+use Rattle.std.proofs.Common.{◌≡◌, ℕ, List, [], ◌∷◌, Bool, true, refl, sym, ap, ◌∙◌, subst}
 use Rattle.std.specs.Prelude.{Option, Some, None, drop, nat_eq, if◌then◌else◌}
 use Rattle.std.proofs.lemmas.Bool.{and_from, eq-eqb}
 use Rattle.ver_ast.specs.declared.place.VPlace.{VPlace}
@@ -10,14 +10,14 @@ use Rattle.ver_ast.specs.Atoms.{AtomTree, net, constant}
 use Rattle.ver_ast.specs.AtomWidths.{atom_width}
 use Rattle.ver_ast.specs.Grammar.{atom_tokens}
 use Rattle.ver_ast.specs.Nets.{arrays, nets}
-use Rattle.ver_ast.specs.SoundSides.{HasSideWidths, HasWidth, IsOperand, IsSound, IsSoundSide, binary_rule, signed_rule}
+use Rattle.ver_ast.specs.SoundSides.{HasSideWidths, HasWidth, IsOperand, IsSoundSide, binary_rule, signed_rule}
 use Rattle.ver_ast.specs.Valid.{IsClockSide}
 use Rattle.ver_valid.specs.working.Scopes.{IsFine}
 use Rattle.ver_check.specs.working.FaultForms.{kind_fault}
-use Rattle.ver_check.specs.declared.kind.Kind.{Kind}
 use Rattle.ver_check.specs.declared.kind.Kind.TheVariants as kind
-use Rattle.ver_check.specs.working.Scopes.{Scope, kind_of, word_bits, bits_of}
-use Rattle.ver_check.specs.working.OperandFaults.{atom_bits, atom_faults, behind, place_at, width_faults}
+use Rattle.ver_check.specs.working.Scopes.{Scope, kind_of, word_bits}
+use Rattle.ver_places.specs.working.Places.{behind, place_at}
+use Rattle.ver_check.specs.working.OperandFaults.{atom_bits, atom_faults, width_faults}
 use Rattle.ver_check.specs.working.SideFaults.{clock_faults, clock_side_faults, first_needs, is_truth, second_needs, side_faults, signed_faults, truth_faults, unary_needs}
 use Rattle.ver_check.specs.working.ItemFaults.{Before}
 use Rattle.ver_check.proofs.OwnFaults.{IsMet, bits_named, met_width, none_of_both}

@@ -1,5 +1,5 @@
 -- What stands behind a port or an item more mirrors the tree with it, and is as sound.
-use Rattle.std.proofs.Common.{◌≡◌, ℕ, ◌+◌, ◌≤◌, Bool, true, false, List, [], ◌∷◌, ◌++◌, map, flat_map, refl, sym, ap, ◌∙◌, inl, inr, ⊎_elim, subst, append_assoc, append-nil, arith}
+use Rattle.std.proofs.Common.{◌≡◌, ℕ, ◌+◌, ◌≤◌, Bool, true, false, List, [], ◌∷◌, ◌++◌, map, flat_map, refl, sym, ap, ◌∙◌, ⊎_elim, subst, append-nil, arith}
 use Rattle.std.specs.Prelude.{drop}
 use Rattle.std.proofs.lemmas.List.{map-append}
 use Rattle.std.proofs.lemmas.List.Sums.{sum_by-append}
@@ -14,11 +14,11 @@ use Rattle.ver_ast.specs.declared.tree.Port.{Port}
 use Rattle.ver_ast.specs.declared.tree.Write.{Write}
 use Rattle.ver_ast.specs.declared.tree.Item.{Item}
 use Rattle.ver_ast.specs.declared.tree.Item.TheVariants as item
-use Rattle.ver_ast.specs.Nets.{Variable, arrays, first_array, item_array}
+use Rattle.ver_ast.specs.Nets.{Variable, arrays, block_target, first_array, item_array, plain_block, resetting_block, writing_block}
 use Rattle.ver_valid.specs.declared.declared.Declared.{Declared}
 use Rattle.ver_valid.specs.working.Declarations.{Entry, IsNarrowKind, entries, entry_names, item_entries, kind_of as port_kind_of, port_entry}
 use Rattle.ver_valid.specs.working.Scopes.{IsFine}
-use Rattle.ver_valid.specs.working.Walks.{IsFresh, IsNextItem, IsNextPort, assigned_names, item_target, item_written, with_items, with_ports, words_of, written_names}
+use Rattle.ver_valid.specs.working.Walks.{IsFresh, IsNextItem, IsNextNet, IsNextPort, assigned_names, item_target, item_written, with_items, with_ports, words_of, written_names}
 use Rattle.ver_valid.proofs.Steps.{arrays_more, assigned_more, entries_more, written_more}
 use Rattle.ver_check.specs.declared.kind.Kind.{Kind}
 use Rattle.ver_check.specs.working.Scopes.{Declaration}
@@ -144,7 +144,7 @@ adds_net before i d entry target write words = record {
   words = no_words before.words ∙ ap (λ (ks : List Variable). before.words + words_of ks) (sym words);
 }
 
-adds : (before : Before) (i : Item) (ps : List VPlace) → Adds before (behind_item before i ps) i
+pub adds : (before : Before) (i : Item) (ps : List VPlace) → Adds before (behind_item before i ps) i
 adds before (item.Wire n) ps = adds_net before (item.Wire n) _ refl refl refl refl
 adds before (item.Reg n) ps = adds_net before (item.Reg n) _ refl refl refl refl
 adds before (item.Array a) ps = adds_declared before (item.Array a) _ (a.last + 1) refl refl refl (let own : words_of (item_array (item.Array a)) ≡ 0 + (a.last + 1) = refl in omega arith)
@@ -195,7 +195,26 @@ module _ (v : Verilog) (fine : IsFine v) (i : Item) where
   fine_one n d e new narrow =
       fine_of next (entries v ++ (n, d) ∷ []) (entries_more v i ∙ ap (λ es. entries v ++ es) e) (one_more_entry (entries v) n d (fine_entries v fine) new narrow)
 
-pub fine_more : (v : Verilog) (i : Item) → IsFine v → IsNextItem v i → IsFine (with_items v (i ∷ []))
+-- what an item is behind those before it, but for what it reads
+abbrev pub IsNew : Verilog → Item → Type 0
+IsNew v (item.Wire n) = IsNextNet v n.name n.width
+IsNew v (item.Reg n) = IsNextNet v n.name n.width
+IsNew v (item.Array a) = IsNextNet v a.name a.width × (words_of (arrays v) + (a.last + 1) ≤ 4194304)
+IsNew v (item.Assign a) = In (assigned_names v) a.target → ⊥
+IsNew v (item.Always b) = (n : List ℕ) → In (block_target (plain_block b)) n → In (written_names v) n → ⊥
+IsNew v (item.Resetting b) = (n : List ℕ) → In (block_target (resetting_block b)) n → In (written_names v) n → ⊥
+IsNew v (item.Writing b) = (n : List ℕ) → In (block_target (writing_block b)) n → In (written_names v) n → ⊥
+
+pub next_new : (v : Verilog) (i : Item) → IsNextItem v i → IsNew v i
+next_new v (item.Wire n) h = h
+next_new v (item.Reg n) h = h
+next_new v (item.Array a) h = h
+next_new v (item.Assign a) h = h.1
+next_new v (item.Always b) h = h.1
+next_new v (item.Resetting b) h = h.1
+next_new v (item.Writing b) h = h.1
+
+fine_more : (v : Verilog) (i : Item) → IsFine v → IsNew v i → IsFine (with_items v (i ∷ []))
 fine_more v (item.Wire n) f h = fine_one v f (item.Wire n) n.name _ refl h.0 h.1
 fine_more v (item.Reg n) f h = fine_one v f (item.Reg n) n.name _ refl h.0 h.1
 fine_more v (item.Array a) f h = fine_one v f (item.Array a) a.name _ refl h.0.0 h.0.1
@@ -225,8 +244,8 @@ written_once (item.Reg n) = tt
 written_once (item.Array a) = tt
 written_once (item.Assign a) = tt
 
-new_target : (v : Verilog) (i : Item) → IsNextItem v i → (n : List ℕ) → In (item_target i) n → In (assigned_names v) n → ⊥
-new_target v (item.Assign a) h n m k = ⊎_elim (λ (e : a.target ≡ n). h.1 (subst (In (assigned_names v)) (sym e) k)) (λ (o : ⊥). o) m
+new_target : (v : Verilog) (i : Item) → IsNew v i → (n : List ℕ) → In (item_target i) n → In (assigned_names v) n → ⊥
+new_target v (item.Assign a) h n m k = ⊎_elim (λ (e : a.target ≡ n). h (subst (In (assigned_names v)) (sym e) k)) (λ (o : ⊥). o) m
 new_target v (item.Wire x) h n m k = m
 new_target v (item.Reg x) h n m k = m
 new_target v (item.Array a) h n m k = m
@@ -234,16 +253,16 @@ new_target v (item.Always b) h n m k = m
 new_target v (item.Resetting b) h n m k = m
 new_target v (item.Writing b) h n m k = m
 
-new_written : (v : Verilog) (i : Item) → IsNextItem v i → (n : List ℕ) → In (item_written i) n → In (written_names v) n → ⊥
-new_written v (item.Always b) h n m k = h.1 n m k
-new_written v (item.Resetting b) h n m k = h.1 n m k
-new_written v (item.Writing b) h n m k = h.1 n (subst (λ ns. In ns n) (append-nil (first_array b.writes)) m) k
+new_written : (v : Verilog) (i : Item) → IsNew v i → (n : List ℕ) → In (item_written i) n → In (written_names v) n → ⊥
+new_written v (item.Always b) h n m k = h n m k
+new_written v (item.Resetting b) h n m k = h n m k
+new_written v (item.Writing b) h n m k = h n (subst (λ ns. In ns n) (append-nil (first_array b.writes)) m) k
 new_written v (item.Wire x) h n m k = m
 new_written v (item.Reg x) h n m k = m
 new_written v (item.Array a) h n m k = m
 new_written v (item.Assign a) h n m k = m
 
-few_more : (v : Verilog) (i : Item) → IsNextItem v i → words_of (arrays v) ≤ 4194304 → words_of (arrays v) + words_of (item_array i) ≤ 4194304
+few_more : (v : Verilog) (i : Item) → IsNew v i → words_of (arrays v) ≤ 4194304 → words_of (arrays v) + words_of (item_array i) ≤ 4194304
 few_more v (item.Array a) h few = let room = h.1 in let own : words_of (item_array (item.Array a)) ≡ 0 + (a.last + 1) = refl in omega arith
 few_more v (item.Wire n) h few = omega arith
 few_more v (item.Reg n) h few = omega arith
@@ -252,7 +271,7 @@ few_more v (item.Always b) h few = omega arith
 few_more v (item.Resetting b) h few = omega arith
 few_more v (item.Writing b) h few = omega arith
 
-pub stands_more : (before : Before) (v : Verilog) (i : Item) (ps : List VPlace) → Stands before v → IsNextItem v i → Stands (behind_item before i ps) (with_items v (i ∷ []))
+pub stands_more : (before : Before) (v : Verilog) (i : Item) (ps : List VPlace) → Stands before v → IsNew v i → Stands (behind_item before i ps) (with_items v (i ∷ []))
 stands_more before v i ps s h = record {
   mirrors = mirrors_more before (behind_item before i ps) v i s.mirrors (adds before i ps);
   fine = fine_more v i s.fine h;

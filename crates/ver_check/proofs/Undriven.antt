@@ -9,7 +9,7 @@ use Rattle.ver_ast.specs.declared.tree.Edge.{Edge}
 use Rattle.ver_ast.specs.declared.tree.Resetting.{Resetting}
 use Rattle.ver_ast.specs.declared.tree.Write.{Write}
 use Rattle.ver_fault.specs.working.Faults.{VFault}
-use Rattle.ver_check.specs.working.OperandFaults.{place_at}
+use Rattle.ver_places.specs.working.Places.{place_at}
 use Rattle.ver_check.specs.working.FaultForms.{undriven_fault}
 use Rattle.ver_check.specs.working.Scopes.{Declaration, Scope, is_driven}
 use Rattle.ver_check.specs.working.ItemFaults.{Before, Driver, at_array, driven_faults, driver_of, resetting_faults, resetting_faults_by, tested_faults, writes_faults}

@@ -3,7 +3,8 @@
 ghost use Rattle.std.specs.Prelude.{◌≡◌, ◌≤◌, List, None, Some, IfOk, drop};
 ghost use Rattle.ver_ast.specs.Grammar.{atom_tokens, write_tokens};
 ghost use Rattle.ver_check.specs.working.Scopes.{bits_of, register_bits, word_bits};
-ghost use Rattle.ver_check.specs.working.OperandFaults.{behind as places_behind, is_constant_fit, own_faults};
+ghost use Rattle.ver_places.specs.working.Places.{behind as places_behind};
+ghost use Rattle.ver_check.specs.working.OperandFaults.{is_constant_fit, own_faults};
 ghost use Rattle.ver_ast.specs.AtomForms.{constant_number};
 ghost use Rattle.ver_check.specs.working.ItemFaults as spec;
 ghost use Rattle.ver_check.specs.working.ItemFaults.{Before, Driver, driven_faults, driver_of};
@@ -13,13 +14,14 @@ ghost use Rattle.ver_check.specs.working.Blocks.{HasScope};
 
 use crate::drivers::Drivers;
 use crate::findings::{refuse, twice, undeclared};
-use crate::operand::{WIDE, behind, is_fit, own, place_at, unequal};
+use crate::operand::{WIDE, is_fit, own, unequal};
 use crate::scope::Scope;
 use crate::side::{array_bits, clock, misplaced, operand};
 use fir_base::{Name, Refused};
 use std::alloc::Global;
 use ver_ast::{Always, Constant, Edge, Resetting, VPlace, Write, Writing};
 use ver_fault::VerFault;
+use ver_places::{behind, place_at};
 
 /// The names that are declared and those that blocks write, as far as a block is judged beside them.
 #[derive(Clone, Copy)]

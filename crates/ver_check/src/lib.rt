@@ -2,8 +2,9 @@
 //! is refused for its first fault of V03, V04 and V05 in the order of the text, else of V08. What these faults are, and
 //! where they stand, is in specs/working/: OperandFaults, SideFaults, ItemFaults, TreeFaults.
 //! One walk goes over the ports and the items (`walk`), and judges each against what is declared (`scope`) and driven
-//! (`drivers`) before it, operand by operand (`operand`, `side`, `block`), each at its places (`passed`). That a tree without
-//! these faults whose processes have an order is valid, and no other, is a law (`laws`).
+//! (`drivers`) before it, operand by operand (`operand`, `side`, `block`), each at its places (ver_places).
+//! `laws` has what that says of a whole tree: it has none of these faults, and an order of its processes, exactly where it
+//! is valid, as `specs/Valid` of ver_ast has it.
 #![tactic(auto)]
 
 mod block;
@@ -12,11 +13,10 @@ mod findings;
 mod kind;
 mod laws;
 mod operand;
-mod passed;
 mod scope;
 mod side;
 mod walk;
 mod whole;
 
-pub use laws::faultless_is_valid;
+pub use laws::{faultless_is_valid, valid_is_shallow};
 pub use whole::check;

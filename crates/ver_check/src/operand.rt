@@ -4,7 +4,8 @@ ghost use Rattle.std.specs.Prelude.{◌≡◌, ◌+◌, ◌-◌, ◌*◌, ℕ, O
 ghost use Rattle.ver_ast.specs.Atoms.{atoms_of, net, part_select};
 ghost use Rattle.ver_ast.specs.AtomForms.{constant_number};
 ghost use Rattle.ver_check.specs.working.Scopes.{Scope as Declarations};
-ghost use Rattle.ver_check.specs.working.OperandFaults.{is_constant_fit, is_narrow, is_within, own_faults, place_at, sum_of, unfit_faults, width_faults};
+ghost use Rattle.ver_places.specs.working.Places.{place_at};
+ghost use Rattle.ver_check.specs.working.OperandFaults.{is_constant_fit, is_narrow, is_within, own_faults, sum_of, unfit_faults, width_faults};
 ghost use Rattle.ver_check.specs.working.Findings.{IsFirst};
 ghost use Rattle.ver_check.specs.working.Known.{Knows};
 ghost use Rattle.ver_check.specs.working.Judged.{IsBehind, IsBeside, IsJudged, IsName, IsNamed, IsNeeded, IsOver, capped};
@@ -16,6 +17,7 @@ use fir_bits::mask;
 use std::alloc::Global;
 use ver_ast::{Atom, AtomForm, Constant, VPlace};
 use ver_fault::VerFault;
+use ver_places::{behind, place_at};
 
 /// What stands for every width past 128 bits.
 pub const WIDE: u32 = 129;
@@ -29,23 +31,6 @@ pub struct Judged<'a> {
     pub next: &'a [VPlace],
     /// The first of its faults.
     pub fault: Option<VerFault>,
-}
-
-/// The place behind so many of these, or line 0, column 0.
-pub fn place_at(places: &[VPlace], count: usize) -> VPlace
-    ensures { result ≡ place_at count places.now }
-{
-    match places.get(count) {
-        Some(place) => *place,
-        None => VPlace { line: 0, col: 0 },
-    }
-}
-
-/// The places behind so many of these.
-pub fn behind(places: &[VPlace], count: usize) -> &[VPlace]
-    ensures { result.now ≡ drop count places.now }
-{
-    &places[count.min(places.len())..]
 }
 
 /// The operand that has the first of these places, where so many bits are needed, or any.

@@ -12,12 +12,13 @@ ghost use Rattle.ver_check.specs.working.Judged.{IsNeeded, capped};
 ghost use Rattle.ver_check.specs.working.Sides.{HasExtent, HasSignedExtent, rule_of};
 
 use crate::findings::{refuse, undeclared};
-use crate::operand::{Judged, WIDE, behind, judge, place_at, unequal};
+use crate::operand::{Judged, WIDE, judge, unequal};
 use crate::scope::Scope;
 use fir_base::{Name, Refused};
 use std::alloc::Global;
 use ver_ast::{Atom, AtomForm, BinaryOp, Rhs, SignedOp, UnaryOp, VPlace};
 use ver_fault::VerFault;
+use ver_places::{behind, place_at};
 
 /// Of an operand without a fault: how many bits it has, and the places behind its own.
 #[derive(Clone, Copy)]

@@ -5,7 +5,8 @@ ghost use Rattle.ver_ast.specs.declared.tree.Item.TheVariants as item_form;
 ghost use Rattle.ver_check.specs.working.Scopes.{declaration_of};
 ghost use Rattle.ver_check.specs.working.OperandFaults.{is_narrow};
 ghost use Rattle.ver_check.specs.working.ItemFaults.{Before, Driver, array_faults, assign_faults, clock_assign_faults, declared_faults, driver_of, item_faults, named_faults, net_assign_faults, no_range_faults, port_faults, range_faults, writes_faults, writing_faults};
-ghost use Rattle.ver_check.specs.working.TreeFaults.{behind_all, behind_items, behind_net, behind_ports, behind_writes, misfits, port_places, items_faults, kind_by, nothing_before, ports_faults, reset_place, undriven_of, with_declared, with_written};
+ghost use Rattle.ver_places.specs.working.Places.{port_places};
+ghost use Rattle.ver_check.specs.working.TreeFaults.{behind_all, behind_items, behind_net, behind_ports, behind_writes, misfits, items_faults, kind_by, nothing_before, ports_faults, reset_place, undriven_of, with_declared, with_written};
 ghost use Rattle.ver_check.specs.working.TreeFaults.{behind_item as standing_behind_item, behind_port as standing_behind_port};
 ghost use Rattle.ver_check.specs.working.Findings.{Finds};
 ghost use Rattle.ver_check.specs.working.Known.{Drives, IsNarrowKind, Knows, declared};
@@ -16,14 +17,16 @@ use crate::block::{Beside, plain_block, resetting_block, undriven, writing_block
 use crate::drivers::Drivers;
 use crate::findings::{twice, undeclared};
 use crate::kind::Kind;
-use crate::operand::{behind, is_narrow, place_at};
-use crate::passed::{array_places, behind_item, behind_port, behind_ports, range_places};
+use crate::operand::is_narrow;
 use crate::scope::{Entry, Scope};
 use crate::side::{clock_side, side, truth};
 use fir_base::{Direction, Name, Refused};
 use std::alloc::Global;
 use ver_ast::{Array, Assign, Item, Port, Resetting, VPlace, Verilog, Write, Writing};
 use ver_fault::VerFault;
+use ver_places::{
+    array_places, behind, behind_item, behind_port, behind_ports, place_at, range_places,
+};
 
 /// How many words all arrays together can have.
 const WORDS: u64 = 4194304;

@@ -3,13 +3,12 @@
 ghost use Rattle.ver_check.specs.working.TreeFaults.{misfits, undriven};
 ghost use Rattle.ver_check.specs.working.Findings.{Finds, FindsElse};
 
-use crate::operand::behind;
-use crate::passed::behind_ports;
 use crate::walk::Walk;
 use fir_base::Refused;
 use std::alloc::Global;
 use ver_ast::Verilog;
 use ver_fault::VerFault;
+use ver_places::{behind, behind_ports};
 
 /// Refuses a tree for its first fault of V03, V04 and V05 in the order of the text, else for the first wire or output in
 /// the text that nothing drives, V08. Places are those of the tree; where it has none they are line 0, column 0.

@@ -34,6 +34,10 @@ no_register : (d : Declared) (w u : ℕ) → driven_width d ≡ Some w → regis
 no_register (Register x) w u e f = cc
 no_register _ w u e f = cc
 
+input_or_register : (d : Declared) (w u : ℕ) → input_width d ≡ Some w → register_width d ≡ Some u → ⊥
+input_or_register (Register x) w u e f = cc
+input_or_register _ w u e f = cc
+
 no_clock : (d : Declared) (w : ℕ) → driven_width d ≡ Some w → is_clock_output d ≡ true → ⊥
 no_clock ClockOutput w e f = cc
 no_clock _ w e f = cc
@@ -76,3 +80,10 @@ module _ (v : Verilog) (once : Distinct (entry_names (entries v))) where
       let same : q.0 ≡ r.0 = let a = r.1 in let b = q.1 in cc in
       no_register r.0 w s.1 r.2 (ap register_width (sym same) ∙ q.2))
       (in_either (input_nets v) (regs v) s k)
+
+  pub input_no_register : (s : SizedNet) (w : ℕ) → In (input_nets v) s → In (regs v) (s.0, w) → ⊥
+  input_no_register s w m k =
+      let q = kind_of_size input_width (input_nets v) (inputs_are v) s.0 s.1 m in
+      let r = kind_of_size register_width (regs v) (regs_are v) s.0 w k in
+      let same : q.0 ≡ r.0 = let a = r.1 in let b = q.1 in cc in
+      input_or_register r.0 s.1 w (ap input_width (sym same) ∙ q.2) r.2

@@ -12,9 +12,10 @@ use Rattle.fir_graph.proofs.Positions.{distinct_from, distinct_at}
 use Rattle.ver_ast.specs.declared.tree.Verilog.{Verilog}
 use Rattle.ver_ast.specs.Processes.{Process, target, processes, process_targets, process_reads}
 use Rattle.ver_ast.specs.Valid.{IsOrder, ReadsBefore}
+use Rattle.ver_valid.specs.working.Circles.{IsCircle as IsProcessCircle, ReadOn, ReadRound, ReadsFrom}
 use Rattle.ver_valid.specs.working.Drivers.{targets_of}
 use Rattle.ver_valid.proofs.DrivenNets.{source_names}
-use Rattle.ver_valid.proofs.ProcessReads.{get_mapped, from_map, Edges, has_place}
+use Rattle.ver_valid.proofs.ProcessReads.{get_mapped, Edges, has_place}
 
 -- the processes of these numbers
 abbrev Listed : List Process → List ℕ → List Process → Type 0
@@ -60,6 +61,36 @@ listed_once ps once (i ∷ is) (p ∷ order) l d = (
 each_from : (xs ys : List (List ℕ)) → ((x : List ℕ) → In xs x → In ys x) → EachIn xs ys
 each_from [] ys h = tt
 each_from (x ∷ xs) ys h = (h x (inl refl), each_from xs ys (λ z m. h z (inr m)))
+
+-- what a process of an order reads is known, or the target of one before it
+read_before : (known : List (List ℕ)) (order : List Process) → ReadsBefore known order → (k : ℕ) (p : Process) (n : List ℕ) → slice_get order k ≡ Some p
+    → In (process_reads p) n → In known n ⊎ ((j : ℕ) × (j < k) × (slice_get (process_targets order) j ≡ Some n))
+read_before known [] r k p n e m = absurd (none-some p e)
+read_before known (q ∷ order) r zero p n e m = inl (each_in (process_reads q) known r.0 n (subst (λ (z : Process). In (process_reads z) n) (sym (same_Some q p e)) m))
+read_before known (q ∷ order) r (suc k) p n e m =
+    ⊎_elim
+    (λ (o : In (target q ∷ known) n). first o)
+    (λ (o : (j : ℕ) × (j < k) × (slice_get (process_targets order) j ≡ Some n)). inr (suc o.0, omega (arith, o.1), o.2))
+    (read_before (target q ∷ known) order r.1 k p n e m)
+  where
+    first : In (target q ∷ known) n → In known n ⊎ ((j : ℕ) × (j < suc k) × (slice_get (process_targets (q ∷ order)) j ≡ Some n))
+    first (inl same) = inr (0, omega arith, ap Some same)
+    first (inr o) = inl o
+
+module _ (v : Verilog) (order : List Process) (o : IsOrder v order) where
+  pub place_of : (p : Process) → In (processes v) p → (k : ℕ) × (slice_get (process_targets order) k ≡ Some (target p))
+  place_of p m = let k = number_of order p (o.each p m) in (k.0, get_mapped target order k.0 p k.1)
+
+  -- what a process reads is the target of one before it, unless it is a source
+  pub read_earlier : (p : Process) → In (processes v) p → (n : List ℕ) → In (process_reads p) n → (In (source_names v) n → ⊥)
+      → (k : ℕ) → slice_get (process_targets order) k ≡ Some (target p) → (j : ℕ) × (j < k) × (slice_get (process_targets order) j ≡ Some n)
+  read_earlier p m n reads other k e =
+      let r = number_of order p (o.each p m) in
+      let same : r.0 ≡ k = distinct_at (process_targets order) o.once r.0 k (target p) (get_mapped target order r.0 p r.1) e in
+      ⊎_elim
+      (λ (i : In (source_names v) n). absurd (other i))
+      (λ (b : (j : ℕ) × (j < k) × (slice_get (process_targets order) j ≡ Some n)). b)
+      (read_before (source_names v) order o.after k p n (ap (slice_get order) (sym same) ∙ r.1) reads)
 
 module _ (v : Verilog) (graph : List (List ℕ)) (g : Edges v graph) (once : Distinct (process_targets (processes v))) where
   abbrev edge : ℕ → ℕ → Type 0
@@ -118,21 +149,6 @@ module _ (v : Verilog) (graph : List (List ℕ)) (g : Edges v graph) (once : Dis
           },
         )
 
-  -- what a process of an order reads is known, or the target of one before it
-  read_before : (known : List (List ℕ)) (order : List Process) → ReadsBefore known order → (k : ℕ) (p : Process) (n : List ℕ) → slice_get order k ≡ Some p
-      → In (process_reads p) n → In known n ⊎ ((j : ℕ) × (j < k) × (slice_get (process_targets order) j ≡ Some n))
-  read_before known [] r k p n e m = absurd (none-some p e)
-  read_before known (q ∷ order) r zero p n e m = inl (each_in (process_reads q) known r.0 n (subst (λ (z : Process). In (process_reads z) n) (sym (same_Some q p e)) m))
-  read_before known (q ∷ order) r (suc k) p n e m =
-      ⊎_elim
-      (λ (o : In (target q ∷ known) n). first o)
-      (λ (o : (j : ℕ) × (j < k) × (slice_get (process_targets order) j ≡ Some n)). inr (suc o.0, omega (arith, o.1), o.2))
-      (read_before (target q ∷ known) order r.1 k p n e m)
-    where
-      first : In (target q ∷ known) n → In known n ⊎ ((j : ℕ) × (j < suc k) × (slice_get (process_targets (q ∷ order)) j ≡ Some n))
-      first (inl same) = inr (0, omega arith, ap Some same)
-      first (inr o) = inl o
-
   module _ (order : List Process) (o : IsOrder v order) where
     -- the process of that number stands at that place
     record Stands (k i : ℕ) : Type 0 where
@@ -142,16 +158,11 @@ module _ (v : Verilog) (graph : List (List ℕ)) (g : Edges v graph) (once : Dis
 
     one_before : (k i w : ℕ) → edge i w → Stands k i → (j : ℕ) × (j < k) × Stands j w
     one_before k i w h s =
-        let p = from_map target (processes v) i s.name s.driven in
-        let q = from_map target order k s.name s.at in
-        let r = number_of (processes v) q.0 (o.only q.0 (get_in order k q.0 q.1)) in
-        let same : r.0 ≡ i = distinct_at (process_targets (processes v)) once r.0 i s.name (get_mapped target (processes v) r.0 q.0 r.1 ∙ ap Some q.2) s.driven in
-        let here : slice_get (processes v) i ≡ Some q.0 = ap (slice_get (processes v)) (sym same) ∙ r.1 in
-        let d = g.right i w q.0 here h in
-        ⊎_elim
-        (λ (m : In (source_names v) d.net). absurd (d.no_source m))
-        (λ (b : (j : ℕ) × (j < k) × (slice_get (process_targets order) j ≡ Some d.net)). (b.0, b.1, record { name = d.net; driven = d.is_target; at = b.2 }))
-        (read_before (source_names v) order o.after k q.0 d.net q.1 d.read)
+        let p = there (processes v) i (subst (λ (n : ℕ). i < n) g.sized (has_place graph i w h)) in
+        let d = g.right i w p.0 p.1 h in
+        let name : s.name ≡ target p.0 = same_Some s.name (target p.0) (sym s.driven ∙ get_mapped target (processes v) i p.0 p.1) in
+        let b = read_earlier v order o p.0 (get_in (processes v) i p.0 p.1) d.net d.read d.no_source k (s.at ∙ ap (λ (n : List ℕ). Some n) name) in
+        (b.0, b.1, record { name = d.net; driven = d.is_target; at = b.2 })
 
     chain_before : (is : List ℕ) (k i w : ℕ) → Chain (targets_of graph) i is w → Stands k i → (j : ℕ) × (j < k) × Stands j w
     chain_before [] k i w c s = one_before k i w c s
@@ -163,8 +174,8 @@ module _ (v : Verilog) (graph : List (List ℕ)) (g : Edges v graph) (once : Dis
     stands : (i w : ℕ) → edge i w → (k : ℕ) × Stands k i
     stands i w h =
         let p = there (processes v) i (subst (λ (n : ℕ). i < n) g.sized (has_place graph i w h)) in
-        let k = number_of order p.0 (o.each p.0 (get_in (processes v) i p.0 p.1)) in
-        (k.0, record { name = target p.0; driven = get_mapped target (processes v) i p.0 p.1; at = get_mapped target order k.0 p.0 k.1 })
+        let k = place_of v order o p.0 (get_in (processes v) i p.0 p.1) in
+        (k.0, record { name = target p.0; driven = get_mapped target (processes v) i p.0 p.1; at = k.1 })
 
     first_edge : (i w : ℕ) (is : List ℕ) → Chain (targets_of graph) i is w → (x : ℕ) × edge i x
     first_edge i w [] c = (w, c)
@@ -183,3 +194,21 @@ module _ (v : Verilog) (graph : List (List ℕ)) (g : Edges v graph) (once : Dis
   -- where the graph has a circle, the processes have no order
   pub no_order : (circle : List ℕ) → IsCircle (targets_of graph) circle → ((order : List Process) × IsOrder v order) → ⊥
   no_order circle c o = no_turn o.0 o.1 circle c.turns
+
+  reads_from : (i w : ℕ) → edge i w → ReadsFrom v i w
+  reads_from i w h =
+      let p = there (processes v) i (subst (λ (n : ℕ). i < n) g.sized (has_place graph i w h)) in
+      let d = g.right i w p.0 p.1 h in
+      record { reader = p.0; is_reader = p.1; net = d.net; reads = d.read; gives = d.is_target }
+
+  read_on : (is : List ℕ) (i w : ℕ) → Chain (targets_of graph) i is w → ReadOn v i is w
+  read_on [] i w c = reads_from i w c
+  read_on (x ∷ is) i w c = (reads_from i x c.0, read_on is x w c.1)
+
+  read_round : (circle : List ℕ) → Turns (targets_of graph) circle → ReadRound v circle
+  read_round [] t = t
+  read_round (i ∷ is) t = read_on is i i t
+
+  -- a circle of the graph is one of the processes
+  pub circle_given : (circle : List ℕ) → IsCircle (targets_of graph) circle → IsProcessCircle v circle
+  circle_given circle c = record { round = read_round circle c.turns; once = c.once }

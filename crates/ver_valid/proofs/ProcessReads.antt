@@ -23,7 +23,7 @@ get_mapped f xs k x e = slice_get-map f xs k ∙ ap (option_map f) e
 pub from_map : {A B : Type 0} (f : A → B) (xs : List A) (k : ℕ) (y : B) → slice_get (map f xs) k ≡ Some y → (x : A) × (slice_get xs k ≡ Some x) × (f x ≡ y)
 from_map f xs k y e = beside f (λ z. z) xs (map f xs) (sym (map-id (map f xs))) k y e
 
-only_some : {A : Type 0} (o : Option A) (x : A) → In (option_to_list o) x → o ≡ Some x
+pub only_some : {A : Type 0} (o : Option A) (x : A) → In (option_to_list o) x → o ≡ Some x
 only_some None x m = absurd m
 only_some (Some y) x (inl e) = ap Some e
 only_some (Some y) x (inr m) = absurd m

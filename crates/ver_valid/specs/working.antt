@@ -10,3 +10,4 @@ pub mod Walks
 -- The processes by their numbers.
 pub mod Numbered
 pub mod Drivers
+pub mod Circles

@@ -7,7 +7,7 @@ ghost use Rattle.ver_valid.specs.working.Drivers.{driver_in, AreDrivers};
 ghost use Rattle.ver_valid.specs.working.Numbered.{IsNumbering};
 
 use crate::numbers::Numbers;
-use crate::processes::{assign_targets, block_targets, input_names, register_names};
+use crate::processes::{block_targets, input_names, process_targets, register_names};
 use fir_base::{MemoryOut, Name};
 use std::alloc::Global;
 use ver_ast::{Assign, Resetting, Verilog};
@@ -93,8 +93,6 @@ fn driving<'a>(
 ) -> Result<Numbers, MemoryOut>
     ensures { IfOk result (IsNumbering (tree.targets (map (λ a. a.now) assigns.now) ++ map (λ b. b.target) (map (λ b. b.now) blocks.now))) }
 {
-    let mut names = assign_targets(alloc, assigns)?;
-    let behind = block_targets(alloc, blocks)?;
-    names.extend_from_slice(behind.as_slice())?;
+    let names = process_targets(alloc, assigns, blocks)?;
     Numbers::new(alloc, names.as_slice())
 }

@@ -3,7 +3,7 @@
 //! none that is valid is turned away.
 //! One walk goes over the ports and the items in the order of the text (`walk`), and judges each against what is
 //! declared before it (`scope`, `operand`, `side`, `block`) and driven (`driven`); then every wire and output has to be
-//! driven, and the processes have to have an order (`ordered`).
+//! driven, and the processes have to have an order; where they have none there is a circle of them (`ordered`).
 #![tactic(auto)]
 
 mod block;
@@ -22,3 +22,5 @@ mod side;
 mod walk;
 
 pub use judge::valid;
+pub use ordered::closed_walk;
+pub use processes::target_names;

@@ -1,4 +1,4 @@
-//! Whether the processes of a tree can be put in an order.
+//! The order of the processes of a tree, or a circle of them.
 
 ghost use Rattle.std.specs.Prelude.{◌≡◌, ℕ, ◌+◌, ◌^◌, ◌<◌, ◌++◌, ◌∷◌, [], List, IfOk, OnOk, OnSome, IsTrue, Some, length, map, slice_get, ◌↔◌};
 ghost use Rattle.fir_base.specs.Lists.{In, Distinct, EachIn};
@@ -7,6 +7,7 @@ ghost use Rattle.ver_ast.specs.Nets as tree;
 ghost use Rattle.ver_ast.specs.Nets.{input_nets, plain_regs, names_of};
 ghost use Rattle.ver_ast.specs.Processes.{Process, processes, process_targets, process_reads};
 ghost use Rattle.ver_ast.specs.Valid.{IsOrder};
+ghost use Rattle.ver_valid.specs.working.Circles.{FindsCircle};
 ghost use Rattle.ver_valid.specs.working.Drivers.{drivers_of, IsProcessGraph, targets_of};
 
 use crate::drivers::Drivers;
@@ -24,10 +25,25 @@ pub fn has_order(alloc: Global, v: &Verilog) -> Result<bool, MemoryOut>
     requires known { (p : Process) → In (processes v.now) p → EachIn (process_reads p) (names_of (input_nets v.now ++ plain_regs v.now) ++ process_targets (processes v.now)) }
     ensures { IfOk result (λ b. IsTrue b ↔ ((order : List Process) × IsOrder v.now order)) }
 {
+    match closed_walk(alloc, v)? {
+        None => Ok(true),
+        Some(_) => Ok(false),
+    }
+}
+
+/// None where the processes can be put in such an order; else a shortest circle through its first process, by the numbers
+/// of processes, the assigns of nets before the asynchronous blocks, each in text order: each reads what the next one
+/// gives, the last what the first gives, and none stands twice. It takes time in proportion to the tree, but for what
+/// look-ups take.
+pub fn closed_walk(alloc: Global, v: &Verilog) -> Result<Option<Seq<usize>>, MemoryOut>
+    requires distinct { Distinct (process_targets (processes v.now)) }
+    requires known { (p : Process) → In (processes v.now) p → EachIn (process_reads p) (names_of (input_nets v.now ++ plain_regs v.now) ++ process_targets (processes v.now)) }
+    ensures { IfOk result (FindsCircle v.now) }
+{
     let graph = ProcessGraph::new(alloc, v)?;
     match order(alloc, &graph) {
-        Ok(_) => Ok(true),
-        Err(Refused::Fault(_)) => Ok(false),
+        Ok(_) => Ok(None),
+        Err(Refused::Fault(circle)) => Ok(Some(circle)),
         Err(Refused::Memory) => Err(MemoryOut),
     }
 }

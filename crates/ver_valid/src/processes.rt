@@ -1,7 +1,8 @@
 //! What a tree declares and drives, as lists of what stands in it.
 
-ghost use Rattle.std.specs.Prelude.{◌≡◌, IfOk, map};
+ghost use Rattle.std.specs.Prelude.{◌≡◌, ◌++◌, IfOk, map};
 ghost use Rattle.ver_ast.specs.Nets.{output_clocks, input_nets, regs, assigns, resets, targets, names_of};
+ghost use Rattle.ver_ast.specs.Processes.{processes, process_targets};
 ghost use Rattle.ver_valid.specs.working.Numbered.{IsNumbering};
 
 use crate::numbers::Numbers;
@@ -95,7 +96,7 @@ pub fn asynchronous_blocks(alloc: Global, v: &Verilog) -> Result<Vec<&Resetting>
 }
 
 /// The targets of the assigns.
-pub fn assign_targets<'a>(alloc: Global, assigns: &[&'a Assign]) -> Result<Vec<&'a Name>, MemoryOut>
+fn assign_targets<'a>(alloc: Global, assigns: &[&'a Assign]) -> Result<Vec<&'a Name>, MemoryOut>
     ensures { IfOk result (λ names. map (λ n. n.now) names.items ≡ targets (map (λ a. a.now) assigns.now)) }
 {
     let mut names = Vec::new(alloc);
@@ -117,4 +118,28 @@ pub fn block_targets<'a>(
         names.push(&block.target)?;
     }
     Ok(names)
+}
+
+/// The targets of the assigns, and behind them those of the blocks.
+pub fn process_targets<'a>(
+    alloc: Global,
+    assigns: &[&'a Assign],
+    blocks: &[&'a Resetting],
+) -> Result<Vec<&'a Name>, MemoryOut>
+    ensures { IfOk result (λ names. map (λ n. n.now) names.items ≡ targets (map (λ a. a.now) assigns.now) ++ map (λ b. b.target) (map (λ b. b.now) blocks.now)) }
+{
+    let mut names = assign_targets(alloc, assigns)?;
+    let behind = block_targets(alloc, blocks)?;
+    names.extend_from_slice(behind.as_slice())?;
+    Ok(names)
+}
+
+/// The names to which the processes of a tree give values: those of the assigns of nets before those of the asynchronous
+/// blocks, each in text order.
+pub fn target_names(alloc: Global, v: &Verilog) -> Result<Vec<&Name>, MemoryOut>
+    ensures { IfOk result (λ names. map (λ n. n.now) names.items ≡ process_targets (processes v.now)) }
+{
+    let assigns = net_assigns(alloc, v)?;
+    let blocks = asynchronous_blocks(alloc, v)?;
+    process_targets(alloc, assigns.as_slice(), blocks.as_slice())
 }

@@ -13,13 +13,14 @@ use Rattle.ver_ast.specs.declared.tree.Writing.{Writing}
 use Rattle.ver_ast.specs.declared.tree.Item.{Item}
 use Rattle.ver_ast.specs.declared.tree.Item.TheVariants as item
 use Rattle.ver_ast.specs.AtomForms.{constant_number}
-use Rattle.ver_ast.specs.Grammar.{range_tokens, atom_tokens, write_tokens}
+use Rattle.ver_ast.specs.Grammar.{atom_tokens, write_tokens}
 use Rattle.ver_fault.specs.working.Faults.{VFault}
 use Rattle.ver_check.specs.working.FaultForms.{undeclared_fault, kind_fault, twice_fault}
 use Rattle.ver_check.specs.working.Scopes.{Declaration, Scope, declaration_of, kind_of, kind_bits, register_bits, word_bits, bits_of}
 use Rattle.ver_check.specs.declared.kind.Kind.{Kind}
 use Rattle.ver_check.specs.declared.kind.Kind.TheVariants as kind
-use Rattle.ver_check.specs.working.OperandFaults.{place_at, places_in, behind, name_faults, is_narrow, is_constant_fit, width_faults, own_faults, atom_faults}
+use Rattle.ver_places.specs.working.Places.{place_at, range_places, behind}
+use Rattle.ver_check.specs.working.OperandFaults.{name_faults, is_narrow, is_constant_fit, width_faults, own_faults, atom_faults}
 use Rattle.ver_check.specs.working.SideFaults.{side_faults, truth_faults, clock_faults, clock_side_faults, misplaced_faults}
 
 -- a name that has a driver, and where it stands in the first one
@@ -46,10 +47,6 @@ declared_faults p n (Some d) = twice_fault p n d.place ∷ []
 abbrev pub driven_faults : VPlace → List ℕ → Option Driver → List VFault
 driven_faults p n None = []
 driven_faults p n (Some d) = twice_fault p n d.place ∷ []
-
--- how many places a range has
-abbrev pub range_places : ℕ → ℕ
-range_places width = places_in (range_tokens width)
 
 -- a range of 2 to 128 bits, which shows at its number that it is none; where no range is written the width is 1
 abbrev pub range_faults : ℕ → VPlace → List VFault

@@ -1,5 +1,5 @@
 -- The law above the faults of a tree, and what it asks of operands.
-use Rattle.std.specs.Prelude.{◌≡◌, ◌↔◌, ℕ, ◌≤◌, List, [], Option, Some, None}
+use Rattle.std.specs.Prelude.{◌≡◌, ◌↔◌, ◌≤◌, List, [], Option, Some, None}
 use Rattle.std.specs.List.{AllByRecursion}
 use Rattle.ver_ast.specs.declared.tree.Verilog.{Verilog}
 use Rattle.ver_ast.specs.declared.tree.Edge.{Edge}
@@ -39,3 +39,7 @@ IsShallow v = AllByRecursion IsShallowItem v.items
 abbrev pub FaultlessIsValid : Type 0
 FaultlessIsValid =
     (v : Verilog) → IsShallow v → ((misfits v ≡ []) × (undriven v ≡ []) × ((order : List Process) × IsOrder v order)) ↔ Valid v
+
+-- in no operand of a valid tree are more open
+abbrev pub ValidIsShallow : Type 0
+ValidIsShallow = (v : Verilog) → Valid v → IsShallow v

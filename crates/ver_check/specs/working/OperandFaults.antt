@@ -2,31 +2,15 @@
 -- An operand shows at its first token that it has another width than is needed, or else that it is wrong itself: a constant that its size does not fit, a select
 -- that is not within a net that has a range, a concatenation that has not 1 to 128 bits. Where one of its names is not declared, or declared as what has no
 -- bits, it has no width, and shows no fault but that of the name.
-use Rattle.std.specs.Prelude.{ℕ, ◌+◌, ◌-◌, ◌*◌, ◌^◌, List, [], ◌∷◌, ◌++◌, length, filter, drop, slice_index_or, Bool, true, ◌&&◌, nat_eq, nat_lt, Option, Some, None, option_map, if◌then◌else◌}
+use Rattle.std.specs.Prelude.{ℕ, ◌+◌, ◌-◌, ◌*◌, ◌^◌, List, [], ◌∷◌, ◌++◌, drop, Bool, true, ◌&&◌, nat_eq, nat_lt, Option, Some, None, option_map, if◌then◌else◌}
 use Rattle.ver_ast.specs.declared.place.VPlace.{VPlace}
 use Rattle.ver_ast.specs.Atoms.{AtomTree, net, constant, bit_select, part_select, concat, repeat, AtomTrees, no_atoms, atom_before}
-use Rattle.ver_ast.specs.Tokens.{VToken}
 use Rattle.ver_ast.specs.Grammar.{atom_tokens}
-use Rattle.ver_ast.specs.Spells.{has_place}
+use Rattle.ver_places.specs.working.Places.{place_at, behind}
 use Rattle.ver_fault.specs.working.Faults.{VFault}
 use Rattle.ver_check.specs.working.FaultForms.{undeclared_fault, width_fault, kind_fault}
 use Rattle.ver_check.specs.declared.kind.Kind.{Kind}
 use Rattle.ver_check.specs.working.Scopes.{Scope, kind_of, kind_bits, bits_of}
-
--- in a tree that no text was read for
-abbrev pub nowhere : VPlace
-nowhere = record { line = 0; col = 0 }
-
--- the one behind so many of these places
-abbrev pub place_at : ℕ → List VPlace → VPlace
-place_at k ps = slice_index_or ps k nowhere
-
--- how many of these tokens have a place in a tree, and the places behind theirs
-abbrev pub places_in : List VToken → ℕ
-places_in ts = length (filter has_place ts)
-
-abbrev pub behind : List VToken → List VPlace → List VPlace
-behind ts ps = drop (places_in ts) ps
 
 -- what is looked for is not there
 abbrev pub lacking_faults : VPlace → Option ℕ → List VFault

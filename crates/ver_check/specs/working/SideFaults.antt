@@ -12,7 +12,8 @@ use Rattle.ver_fault.specs.working.Faults.{VFault}
 use Rattle.ver_check.specs.working.FaultForms.{undeclared_fault, width_fault, kind_fault}
 use Rattle.ver_check.specs.declared.kind.Kind.{Kind}
 use Rattle.ver_check.specs.working.Scopes.{Scope, kind_of, word_bits, bits_of, is_clock_input}
-use Rattle.ver_check.specs.working.OperandFaults.{place_at, behind, name_faults, atom_bits, width_faults, atom_faults}
+use Rattle.ver_places.specs.working.Places.{place_at, behind}
+use Rattle.ver_check.specs.working.OperandFaults.{name_faults, atom_bits, width_faults, atom_faults}
 
 -- the bits that the first and the second operand need beside a target of w bits; compared operands have one width
 abbrev pub first_needs : OperandRule → ℕ → Option ℕ

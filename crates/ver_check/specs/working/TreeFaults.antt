@@ -17,8 +17,8 @@ use Rattle.fir_base.specs.declared.direction.Direction.TheVariants.{Input, Outpu
 use Rattle.ver_check.specs.declared.kind.Kind.{Kind}
 use Rattle.ver_check.specs.declared.kind.Kind.TheVariants as kind
 use Rattle.ver_check.specs.working.Scopes.{Declaration, is_driven}
-use Rattle.ver_check.specs.working.OperandFaults.{place_at, behind}
-use Rattle.ver_check.specs.working.ItemFaults.{Before, Driver, port_faults, range_places, item_faults, at_array}
+use Rattle.ver_places.specs.working.Places.{place_at, range_places, behind, port_places, item_places}
+use Rattle.ver_check.specs.working.ItemFaults.{Before, Driver, port_faults, item_faults, at_array}
 
 -- nothing stands before
 abbrev pub nothing_before : Before
@@ -86,13 +86,6 @@ items_faults before (i ∷ rest) ps = item_faults before i ps ++ items_faults (b
 abbrev pub behind_items : Before → List Item → List VPlace → Before
 behind_items before [] ps = before
 behind_items before (i ∷ rest) ps = behind_items (behind_item before i ps) rest (behind (item_tokens i) ps)
-
--- the word `module` and the module's name have the first two places
-abbrev pub port_places : Verilog → List VPlace
-port_places v = drop 2 v.places
-
-abbrev pub item_places : Verilog → List VPlace
-item_places v = behind (flat_map port_tokens v.ports) (port_places v)
 
 abbrev pub before_items : Verilog → Before
 before_items v = behind_ports nothing_before v.ports (port_places v)

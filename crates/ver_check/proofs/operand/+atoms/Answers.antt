@@ -1,7 +1,7 @@
 use Rattle.std.proofs.Common.{◌≤◌, drop, ◌+◌, arith}
 use Rattle.ver_ast.specs.Atoms.{atoms_of}
 use Rattle.ver_ast.specs.working.AtomSizes.{atom_size, atoms_size}
-use Rattle.ver_check.proofs.AtomLists.{item_size, next_atoms}
+use Rattle.ver_places.proofs.AtomLists.{item_size, next_atoms}
 use Rattle.ver_check.proofs.Operands.{amid_goes_on}
 use Rattle.ver_check.proofs.operand.+atoms.Goals as goal
 

@@ -1,8 +1,0 @@
-use Rattle.std.proofs.Common.{◌≡◌, drop}
-use Rattle.std.specs.Prelude.{flat_map}
-use Rattle.ver_ast.specs.Grammar.{port_tokens}
-use Rattle.ver_check.specs.working.OperandFaults.{behind}
-use Rattle.ver_check.proofs.passed.behind_ports.Given as goal
-
-abbrev pub invariant-loop-port : goal.invariant-loop-port
-invariant-loop-port l = behind (flat_map port_tokens l.ports) l.places ≡ behind (flat_map port_tokens (drop l.port-index l.ports)) l.next

@@ -1,8 +1,0 @@
-use Rattle.std.proofs.Common.{◌≡◌, drop}
-use Rattle.std.specs.Prelude.{flat_map}
-use Rattle.ver_ast.specs.Grammar.{write_tokens}
-use Rattle.ver_check.specs.working.OperandFaults.{behind}
-use Rattle.ver_check.proofs.passed.behind_writes.Given as goal
-
-abbrev pub invariant-loop-write : goal.invariant-loop-write
-invariant-loop-write l = behind (flat_map write_tokens l.writes) l.places ≡ behind (flat_map write_tokens (drop l.write-index l.writes)) l.next

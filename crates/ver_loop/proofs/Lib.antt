@@ -1,0 +1,3 @@
+pub mod ClosedWalks
+pub mod Givers
+pub mod NoOrder

@@ -1,0 +1,5 @@
+pub mod Fronts
+pub mod Depths
+pub mod TextFaults
+pub mod Parsed
+pub mod working

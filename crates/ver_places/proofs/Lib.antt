@@ -1,0 +1,5 @@
+pub mod AtomLists
+pub mod PlacesBehind
+pub mod SidePlaces
+pub mod WritePlaces
+pub mod ItemStarts

@@ -1,0 +1,3 @@
+-- What no clause of `run` reads: the places of the parts of a tree.
+pub mod Places
+pub mod ItemPlaces

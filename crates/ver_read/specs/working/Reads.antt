@@ -1,0 +1,49 @@
+-- Which texts of the Verilog subset are taken, and for which fault the others are refused (IEEE 1364-2005, cut to the subset).
+-- A text is taken where it spells a valid tree. Else the first fault counts: of the text; or else, in the tree that it spells, of what does not fit, in the order of
+-- the text; or else of what nothing drives; or else of closed walks.
+use Rattle.std.specs.Prelude.{◌≡◌, ◌⊎◌, ℕ, List, [], Result, Ok, Err}
+use Rattle.fir_base.specs.declared.refused.Refused.{Refused}
+use Rattle.fir_base.specs.declared.refused.Refused.TheVariants.{Fault, Memory}
+use Rattle.ver_ast.specs.declared.tree.Verilog.{Verilog}
+use Rattle.ver_ast.specs.Processes.{Process}
+use Rattle.ver_ast.specs.Spells.{VSpells}
+use Rattle.ver_ast.specs.Valid.{Valid, IsOrder}
+use Rattle.ver_fault.specs.declared.fault.VerFault.{VerFault}
+use Rattle.ver_fault.specs.working.Faults.{VFault}
+use Rattle.ver_fault.specs.working.View.{vfault_of}
+use Rattle.ver_parse.specs.Depths.{IsShallow}
+use Rattle.ver_parse.specs.TextFaults.{TextFault}
+use Rattle.ver_check.specs.working.TreeFaults.{misfits, undriven, BeginsWith}
+use Rattle.ver_loop.specs.working.Loops.{ShowsLoop}
+
+-- a text that is taken
+pub record IsTextOf (bytes : List ℕ) (v : Verilog) : Type 0 where
+  pub spelled : VSpells bytes v
+  pub valid : Valid v
+
+-- a text that has a tree, as nowhere in it are more than 256 braces open
+pub record HasTree (bytes : List ℕ) (v : Verilog) : Type 0 where
+  pub spelled : VSpells bytes v
+  pub shallow : IsShallow spelled.tokens
+
+-- the first of what does not fit; or else of what nothing drives; or else of closed walks
+abbrev pub IsTreeFault : Verilog → VFault → Type 0
+IsTreeFault v f =
+    BeginsWith (misfits v) f
+    ⊎ ((misfits v ≡ []) × BeginsWith (undriven v) f)
+    ⊎ ((misfits v ≡ []) × (undriven v ≡ []) × ShowsLoop v f)
+
+-- the first fault of a text, or else of its tree
+abbrev pub IsFaultOf : List ℕ → VFault → Type 0
+IsFaultOf bytes f = TextFault bytes f ⊎ ((v : Verilog) × HasTree bytes v × IsTreeFault v f)
+
+abbrev pub Reads : List ℕ → Result Verilog (Refused VerFault) → Type 0
+Reads bytes (Ok v) = IsTextOf bytes v
+Reads bytes (Err (Fault f)) = IsFaultOf bytes (vfault_of f)
+Reads bytes (Err Memory) = Unit {0}
+
+-- a tree without a fault, and an order of its processes; or its first fault
+abbrev pub TreeChecked : Verilog → Result Unit (Refused VerFault) → Type 0
+TreeChecked v (Ok x) = (misfits v ≡ []) × (undriven v ≡ []) × ((order : List Process) × IsOrder v order)
+TreeChecked v (Err (Fault f)) = IsTreeFault v (vfault_of f)
+TreeChecked v (Err Memory) = Unit {0}

@@ -1,0 +1,26 @@
+-- What no clause of `run` reads: nets, words and processes by number, and what the simulator keeps.
+pub mod TraceShapes
+pub mod Valued
+pub mod Pieces
+pub mod Operands
+pub mod Works
+pub mod Tasks
+pub mod Turns
+pub mod FlatStates
+pub mod Blocks
+pub mod ShownWords
+pub mod Inputs
+pub mod Views
+pub mod Running
+pub mod Edges
+pub mod Names
+pub mod Spans
+pub mod Tables
+pub mod Reads
+pub mod Pairs
+pub mod WorksOf
+pub mod Start
+pub mod Lacking
+pub mod Checks
+pub mod Rests
+pub mod NoValues

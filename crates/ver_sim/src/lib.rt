@@ -1,0 +1,33 @@
+//! The simulator of a Verilog tree: the values of its nets by number, a task for each process, and steps in any
+//! order.
+#![tactic(auto)]
+
+mod block_tasks;
+mod blocks;
+mod declarations;
+mod edge;
+mod inputs;
+mod lacking;
+mod names;
+mod numbers;
+mod operand;
+mod outputs;
+mod piece;
+mod plan;
+mod processes;
+mod read;
+mod rest;
+mod shown;
+mod signed;
+mod sim;
+mod start;
+mod steps;
+mod tables;
+mod task;
+mod traces;
+mod unsettled;
+mod work;
+
+pub use sim::{NoValue, VSim};
+pub use traces::shape;
+pub use unsettled::NotYet;
