@@ -11,7 +11,8 @@ file reads comes before it.
     definitions.py --write     puts it into docs/DEFINITIONS.md, between the two lines that mark its
                                place
     definitions.py --check     fails where the list there is another, where a definition in some
-                               specs/ is read by no clause, and where one of a specs/working/ is
+                               specs/ is read by no clause, and where one of a specs/working/ is;
+                               here what a command to come will call counts beside `run`
     definitions.py --why NAME  prints the shortest way from `run` to each definition of that name
     definitions.py --below NAME..
                                counts what is to be read for these, with all that they read
@@ -34,6 +35,8 @@ PAGE = ROOT / "docs/DEFINITIONS.md"
 BEGIN = "<!-- definitions: made by checks/definitions.py -->\n"
 END = "<!-- end of definitions -->\n"
 RUN = CRATES / "fir_driver/src/program.rt"
+# What a command to come will call, whose contracts `run` will read then.
+TO_COME = {"ver_read/src/text.rt": "read_verilog", "ver_fault/src/line.rt": "put_line"}
 
 # What each chapter says, by the first crate of its subject in crates.txt.
 PURPOSES = {
@@ -61,16 +64,29 @@ def read_by(node):
     return list(spec_file(file).read_by(name) if is_spec(file) else read_by_item(file, name))
 
 
+def clauses_of(file, name):
+    """The bounds of a public function, and its clauses."""
+    form = rf"^( *)pub fn {name}(?:<(.*?)>)?\(.*?^\1\{{$"
+    head = re.search(form, text_of(file), re.M | re.S)
+    return head[2] or "", "".join(re.findall(r"^ *(?:requires|ensures).*\n", head[0], re.M))
+
+
 def starts():
     """What the clauses of `run` name."""
-    head = re.search(r"^pub fn run<(.*?)>\(.*?^\{$", text_of(RUN), re.M | re.S)
-    clauses = "".join(re.findall(r"^    (?:requires|ensures).*\n", head[0], re.M))
+    bounds, clauses = clauses_of(RUN, "run")
     found = [
         named_from(RUN, trait)
-        for bound, trait in re.findall(r"(\w+): (\w+)", head[1])
+        for bound, trait in re.findall(r"(\w+): (\w+)", bounds)
         if re.search(rf"\b{bound}\.", clauses)
     ]
     return found + list(named_by(text_of(RUN), clauses))
+
+
+def to_come():
+    """What the clauses of the calls name that a command to come will make."""
+    for shown_file, name in TO_COME.items():
+        file = CRATES / shown_file
+        yield from named_by(text_of(file), clauses_of(file, name)[1])
 
 
 def reached(begin):
@@ -216,6 +232,7 @@ def crate_of(file):
 
 def out_of_place(reads):
     """What is wrong with where definitions stand."""
+    reads = {**reads, **reached(to_come())[0]}
     for file in sorted(CRATES.glob("*/specs/**/*.antt")):
         for it in spec_file(file).definitions if not is_working(file) else ():
             if (file, it.names[0]) not in reads and (shown(file), it.names[0]) not in LEFT_OVER:

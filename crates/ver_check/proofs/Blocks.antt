@@ -5,17 +5,17 @@ use Rattle.std.specs.Str.{bytes_eq}
 use Rattle.ver_ast.specs.declared.place.VPlace.{VPlace}
 use Rattle.ver_ast.specs.declared.tree.Write.{Write}
 use Rattle.ver_ast.specs.Grammar.{write_tokens}
-use Rattle.ver_fault.specs.working.Faults.{VFault}
+use Rattle.ver_fault.specs.Faults.{VFault}
 use Rattle.ver_check.specs.declared.kind.Kind.{Kind}
 use Rattle.ver_check.specs.declared.scope.Entry.{Entry}
 use Rattle.ver_check.specs.declared.scope.Scope.{Scope as Names}
-use Rattle.ver_check.specs.working.FaultForms.{undeclared_fault, kind_fault}
-use Rattle.ver_check.specs.working.Scopes.{Declaration, Scope, declaration_of, kind_of}
-use Rattle.ver_places.specs.working.Places.{behind}
-use Rattle.ver_check.specs.working.OperandFaults.{name_faults, lacking_faults}
-use Rattle.ver_check.specs.working.SideFaults.{misplaced_faults}
-use Rattle.ver_check.specs.working.ItemFaults.{Before, again_faults, more_writes_faults, next_write_faults}
-use Rattle.ver_check.specs.working.TreeFaults.{BeginsWith}
+use Rattle.ver_check.specs.FaultForms.{undeclared_fault, kind_fault}
+use Rattle.ver_check.specs.Scopes.{Declaration, Scope, declaration_of, kind_of}
+use Rattle.ver_places.specs.Places.{behind}
+use Rattle.ver_check.specs.OperandFaults.{name_faults, lacking_faults}
+use Rattle.ver_check.specs.SideFaults.{misplaced_faults}
+use Rattle.ver_check.specs.ItemFaults.{Before, again_faults, more_writes_faults, next_write_faults}
+use Rattle.ver_check.specs.TreeFaults.{BeginsWith}
 use Rattle.ver_check.specs.working.Known.{Knows, found, entry_of}
 use Rattle.fir_base.proofs.SameNames.{name_is}
 use Rattle.ver_check.proofs.Firsts.{begins_more}

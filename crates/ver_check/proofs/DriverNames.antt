@@ -6,7 +6,7 @@ use Rattle.std.proofs.lemmas.Option.{none-some}
 use Rattle.fir_base.specs.Lists.{In}
 use Rattle.fir_base.proofs.SameNames.{name_apart, name_other}
 use Rattle.ver_ast.specs.declared.place.VPlace.{VPlace}
-use Rattle.ver_check.specs.working.ItemFaults.{Driver, driven_faults, driver_of}
+use Rattle.ver_check.specs.ItemFaults.{Driver, driven_faults, driver_of}
 use Rattle.ver_check.proofs.Mirrors.{driver_names}
 use Rattle.ver_check.proofs.Undriven.{free_of}
 

@@ -12,14 +12,14 @@ use Rattle.ver_ast.specs.declared.tree.Port.{Port}
 use Rattle.ver_ast.specs.declared.tree.Item.{Item}
 use Rattle.ver_ast.specs.declared.tree.Item.TheVariants as item
 use Rattle.ver_ast.proofs.Chosen.{among, is_named}
-use Rattle.ver_fault.specs.working.Faults.{VFault}
+use Rattle.ver_fault.specs.Faults.{VFault}
 use Rattle.ver_valid.specs.declared.declared.Declared.TheVariants.{Wire}
 use Rattle.ver_valid.specs.working.Declarations.{Entry, entries, item_entries, kind_of as port_kind_of, port_entry}
 use Rattle.ver_valid.specs.working.Walks.{IsItemDriven, IsOutputDriven, IsPortDriven, assigned_names}
-use Rattle.ver_check.specs.working.FaultForms.{undriven_fault}
-use Rattle.ver_check.specs.working.Scopes.{Declaration, is_driven}
-use Rattle.ver_check.specs.working.ItemFaults.{Before}
-use Rattle.ver_check.specs.working.TreeFaults.{is_assigned, undriven_of}
+use Rattle.ver_check.specs.FaultForms.{undriven_fault}
+use Rattle.ver_check.specs.Scopes.{Declaration, is_driven}
+use Rattle.ver_check.specs.ItemFaults.{Before}
+use Rattle.ver_check.specs.TreeFaults.{is_assigned, undriven_of}
 use Rattle.ver_check.proofs.Faultless.{first_empty, second_empty}
 use Rattle.ver_check.proofs.OwnFaults.{none_of_both, untested}
 use Rattle.ver_check.proofs.Mirrors.{Mirrors, Named, driver_names, kind_as, named, named_entry}

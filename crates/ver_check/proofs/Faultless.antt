@@ -4,12 +4,12 @@ use Rattle.std.specs.Prelude.{Option, Some, None, nat_lt, ◌&&◌, option_map, 
 use Rattle.std.proofs.lemmas.Bool.{ltb-true}
 use Rattle.ver_ast.specs.declared.place.VPlace.{VPlace}
 use Rattle.ver_ast.specs.Atoms.{AtomTree, net, constant, bit_select, part_select, concat, repeat}
-use Rattle.ver_fault.specs.working.Faults.{VFault}
+use Rattle.ver_fault.specs.Faults.{VFault}
 use Rattle.ver_check.specs.declared.kind.Kind.{Kind}
 use Rattle.ver_check.specs.declared.kind.Kind.TheVariants.{ClockInput, ClockOutput, Input, Output, Wire, Register, Array}
-use Rattle.ver_check.specs.working.Scopes.{Declaration, Scope, declaration_of, kind_bits, found_by, bits_of}
-use Rattle.ver_places.specs.working.Places.{place_at}
-use Rattle.ver_check.specs.working.OperandFaults.{are_narrow, is_fit, is_narrow, is_within, atom_bits, atom_faults, whole_faults, width_faults, unfit_faults}
+use Rattle.ver_check.specs.Scopes.{Declaration, Scope, declaration_of, kind_bits, found_by, bits_of}
+use Rattle.ver_places.specs.Places.{place_at}
+use Rattle.ver_check.specs.OperandFaults.{are_narrow, is_fit, is_narrow, is_within, atom_bits, atom_faults, whole_faults, width_faults, unfit_faults}
 use Rattle.ver_check.specs.working.Judged.{IsNeeded}
 use Rattle.ver_check.specs.working.Known.{IsNarrowKind}
 

@@ -17,11 +17,11 @@ use Rattle.ver_ast.specs.Nets.{clocks, first_array, nets, plain_block, regs, res
 use Rattle.ver_ast.specs.Valid.{AreWrites, IsEdge, IsWrite}
 use Rattle.ver_valid.specs.working.Scopes.{HasArray, IsFine}
 use Rattle.ver_valid.specs.working.Walks.{IsNextBlock, written_names}
-use Rattle.ver_check.specs.working.Scopes.{Scope, bits_of, kind_of, register_bits, word_bits}
-use Rattle.ver_places.specs.working.Places.{behind, place_at}
-use Rattle.ver_check.specs.working.OperandFaults.{atom_faults, is_constant_fit, name_faults, own_faults}
-use Rattle.ver_check.specs.working.SideFaults.{clock_faults}
-use Rattle.ver_check.specs.working.ItemFaults.{Before, always_faults, at_array, driven_faults, driver_of, more_writes_faults, register_faults, reset_faults, resetting_faults, resetting_faults_by, tested_faults, writes_faults, writing_faults, written_faults}
+use Rattle.ver_check.specs.Scopes.{Scope, bits_of, kind_of, register_bits, word_bits}
+use Rattle.ver_places.specs.Places.{behind, place_at}
+use Rattle.ver_check.specs.OperandFaults.{atom_faults, is_constant_fit, name_faults, own_faults}
+use Rattle.ver_check.specs.SideFaults.{clock_faults}
+use Rattle.ver_check.specs.ItemFaults.{Before, always_faults, at_array, driven_faults, driver_of, more_writes_faults, register_faults, reset_faults, resetting_faults, resetting_faults_by, tested_faults, writes_faults, writing_faults, written_faults}
 use Rattle.ver_check.specs.working.Laws.{IsShallowAtom, IsShallowEdge, IsShallowWrite}
 use Rattle.ver_check.proofs.Blocks.{again_same}
 use Rattle.ver_check.proofs.DriverNames.{not_driven, only_target}

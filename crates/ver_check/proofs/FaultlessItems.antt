@@ -17,14 +17,14 @@ use Rattle.ver_ast.specs.Nets.{arrays, first_array}
 use Rattle.ver_valid.specs.working.Declarations.{IsNarrow, IsNarrowKind, kind_of as port_kind_of}
 use Rattle.ver_valid.specs.working.Scopes.{IsFine, driven_nets}
 use Rattle.ver_valid.specs.working.Walks.{IsFresh, IsNextAssign, IsNextItem, IsNextNet, IsNextPort, assigned_names, words_of, written_names}
-use Rattle.ver_check.specs.working.FaultForms.{kind_fault}
+use Rattle.ver_check.specs.FaultForms.{kind_fault}
 use Rattle.ver_check.specs.declared.kind.Kind.{Kind}
 use Rattle.ver_check.specs.declared.kind.Kind.TheVariants as kind
-use Rattle.ver_check.specs.working.Scopes.{Declaration, Scope, declaration_of, kind_of}
-use Rattle.ver_places.specs.working.Places.{nowhere, place_at, range_places}
-use Rattle.ver_check.specs.working.OperandFaults.{is_narrow}
-use Rattle.ver_check.specs.working.SideFaults.{clock_side_faults, truth_faults}
-use Rattle.ver_check.specs.working.ItemFaults.{Before, array_faults, assign_faults, assign_faults_by, clock_port_faults, declared_faults, driven_faults, driver_of, item_faults, named_faults, net_assign_faults, no_range_faults, port_faults, range_faults, register_faults, writes_faults}
+use Rattle.ver_check.specs.Scopes.{Declaration, Scope, declaration_of, kind_of}
+use Rattle.ver_places.specs.Places.{nowhere, place_at, range_places}
+use Rattle.ver_check.specs.OperandFaults.{is_narrow}
+use Rattle.ver_check.specs.SideFaults.{clock_side_faults, truth_faults}
+use Rattle.ver_check.specs.ItemFaults.{Before, array_faults, assign_faults, assign_faults_by, clock_port_faults, declared_faults, driven_faults, driver_of, item_faults, named_faults, net_assign_faults, no_range_faults, port_faults, range_faults, register_faults, writes_faults}
 use Rattle.ver_check.specs.working.Laws.{IsShallowItem}
 use Rattle.ver_check.proofs.DriverNames.{not_driven, only_target}
 use Rattle.ver_check.proofs.Faultless.{first_empty, second_empty}

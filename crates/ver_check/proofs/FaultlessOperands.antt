@@ -12,10 +12,10 @@ use Rattle.ver_ast.specs.SoundSides.{IsSound, AreSound}
 use Rattle.ver_valid.specs.working.Declarations.{IsNarrow}
 use Rattle.ver_valid.specs.working.Scopes.{IsFine}
 use Rattle.ver_valid.proofs.Fine.{fine_narrow, fine_width}
-use Rattle.ver_check.specs.working.Scopes.{Scope, kind_bits, kind_of, bits_of}
-use Rattle.ver_places.specs.working.Places.{behind, place_at}
-use Rattle.ver_check.specs.working.OperandFaults.{are_narrow, atom_bits, atom_faults, is_within, joined_bits, joined_faults, net_faults, sum_of}
-use Rattle.ver_check.specs.working.ItemFaults.{Before}
+use Rattle.ver_check.specs.Scopes.{Scope, kind_bits, kind_of, bits_of}
+use Rattle.ver_places.specs.Places.{behind, place_at}
+use Rattle.ver_check.specs.OperandFaults.{are_narrow, atom_bits, atom_faults, is_within, joined_bits, joined_faults, net_faults, sum_of}
+use Rattle.ver_check.specs.ItemFaults.{Before}
 use Rattle.ver_check.proofs.Faultless.{first_empty, second_empty}
 use Rattle.ver_check.proofs.OwnFaults.{IsMet, constant_is, named_bits, narrow_is, own_fit, own_met, within_is}
 use Rattle.ver_check.proofs.Mirrors.{Mirrors, bits_net}

@@ -16,8 +16,8 @@ use Rattle.ver_valid.specs.working.Scopes.{driven_nets}
 use Rattle.ver_valid.specs.working.Walks.{no_items, no_ports}
 use Rattle.ver_valid.proofs.Ready.{IsReady}
 use Rattle.ver_valid.proofs.TreeMembers.{assign_at}
-use Rattle.ver_places.specs.working.Places.{item_places, port_places}
-use Rattle.ver_check.specs.working.TreeFaults.{before_items, behind_all, items_faults, misfits, nothing_before, ports_faults, undriven}
+use Rattle.ver_places.specs.Places.{item_places, port_places}
+use Rattle.ver_check.specs.TreeFaults.{before_items, behind_all, items_faults, misfits, nothing_before, ports_faults, undriven}
 use Rattle.ver_check.proofs.DueNames.{AreDriven, all_driven, outputs_driven, wires_driven}
 use Rattle.ver_check.proofs.Faultless.{first_empty, second_empty}
 use Rattle.ver_check.proofs.FaultlessTrees.{behind_ports}

@@ -15,14 +15,14 @@ use Rattle.ver_ast.specs.Nets.{arrays, nets}
 use Rattle.ver_ast.specs.SoundSides.{IsOperand, HasWidth, IsSoundSide, binary_rule, signed_rule}
 use Rattle.ver_ast.specs.Valid.{IsClockSide}
 use Rattle.ver_valid.specs.working.Scopes.{IsFine}
-use Rattle.ver_check.specs.working.FaultForms.{kind_fault}
+use Rattle.ver_check.specs.FaultForms.{kind_fault}
 use Rattle.ver_check.specs.declared.kind.Kind.{Kind}
 use Rattle.ver_check.specs.declared.kind.Kind.TheVariants as kind
-use Rattle.ver_check.specs.working.Scopes.{Scope, is_clock_input, kind_of, word_bits, bits_of}
-use Rattle.ver_places.specs.working.Places.{behind, place_at}
-use Rattle.ver_check.specs.working.OperandFaults.{atom_bits, atom_faults, name_faults, width_faults}
-use Rattle.ver_check.specs.working.SideFaults.{clock_faults, clock_side_faults, first_needs, is_truth, misplaced_atom, second_needs, side_faults, signed_faults, truth_faults, unary_needs}
-use Rattle.ver_check.specs.working.ItemFaults.{Before}
+use Rattle.ver_check.specs.Scopes.{Scope, is_clock_input, kind_of, word_bits, bits_of}
+use Rattle.ver_places.specs.Places.{behind, place_at}
+use Rattle.ver_check.specs.OperandFaults.{atom_bits, atom_faults, name_faults, width_faults}
+use Rattle.ver_check.specs.SideFaults.{clock_faults, clock_side_faults, first_needs, is_truth, misplaced_atom, second_needs, side_faults, signed_faults, truth_faults, unary_needs}
+use Rattle.ver_check.specs.ItemFaults.{Before}
 use Rattle.ver_check.specs.working.Laws.{IsShallowAtom}
 use Rattle.ver_check.proofs.Faultless.{first_empty, second_empty}
 use Rattle.ver_check.proofs.OwnFaults.{IsMet, named_bits, tested, width_met}

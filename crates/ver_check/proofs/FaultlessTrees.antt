@@ -6,8 +6,8 @@ use Rattle.ver_ast.specs.Valid.{IsOrder, Valid}
 use Rattle.ver_valid.specs.working.Walks.{AreNextItems, AreNextPorts, IsWalked, no_items, no_ports}
 use Rattle.ver_valid.proofs.FromWalk.{valid_from}
 use Rattle.ver_valid.proofs.ToWalk.{walked_from}
-use Rattle.ver_places.specs.working.Places.{item_places, port_places}
-use Rattle.ver_check.specs.working.TreeFaults.{before_items, behind_all, items_faults, misfits, nothing_before, ports_faults, undriven}
+use Rattle.ver_places.specs.Places.{item_places, port_places}
+use Rattle.ver_check.specs.TreeFaults.{before_items, behind_all, items_faults, misfits, nothing_before, ports_faults, undriven}
 use Rattle.ver_check.specs.working.Laws.{IsShallow}
 use Rattle.ver_check.proofs.DueNames.{all_driven, due_driven, none_undriven, outputs_driven, wires_driven}
 use Rattle.ver_check.proofs.Faultless.{first_empty, second_empty}

@@ -2,8 +2,8 @@
 use Rattle.std.proofs.Common.{◌≡◌, List, [], ◌++◌, sym, ap, subst}
 use Rattle.std.specs.Prelude.{Option, None}
 use Rattle.ver_fault.specs.declared.fault.VerFault.{VerFault}
-use Rattle.ver_fault.specs.working.Faults.{VFault}
-use Rattle.ver_check.specs.working.TreeFaults.{BeginsWith}
+use Rattle.ver_fault.specs.Faults.{VFault}
+use Rattle.ver_check.specs.TreeFaults.{BeginsWith}
 use Rattle.ver_check.specs.working.Findings.{IsFirst}
 
 -- a list that begins so, with another behind it

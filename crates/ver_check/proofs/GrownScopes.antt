@@ -11,8 +11,8 @@ use Rattle.ver_ast.specs.declared.place.VPlace.{VPlace}
 use Rattle.ver_check.specs.declared.scope.Entry.{Entry}
 use Rattle.ver_check.specs.declared.scope.Scope.{Scope as Names}
 use Rattle.ver_check.specs.declared.drivers.Drivers.{Drivers}
-use Rattle.ver_check.specs.working.Scopes.{Declaration, Scope, declaration_of}
-use Rattle.ver_check.specs.working.ItemFaults.{Driver, driver_of}
+use Rattle.ver_check.specs.Scopes.{Declaration, Scope, declaration_of}
+use Rattle.ver_check.specs.ItemFaults.{Driver, driver_of}
 use Rattle.ver_check.specs.working.Known.{IsNarrowKind, Knows, found, entry_of, declared, driver_in, Drives}
 
 -- whether two keys spell one name

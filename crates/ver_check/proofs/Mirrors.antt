@@ -18,8 +18,8 @@ use Rattle.ver_valid.proofs.Entries.{nets_are, regs_are, wires_are, outputs_are,
 use Rattle.ver_valid.proofs.EntryKinds.{Sized, sized_kind, kind_sized, kind_chosen, chosen_kind, kind_in, kind_of_entry, known_or_not}
 use Rattle.ver_check.specs.declared.kind.Kind.{Kind}
 use Rattle.ver_check.specs.declared.kind.Kind.TheVariants as kind
-use Rattle.ver_check.specs.working.Scopes.{Declaration, Scope, declaration_of, kind_of, kind_bits, register_bits, word_bits, found_by, bits_of}
-use Rattle.ver_check.specs.working.ItemFaults.{Before, Driver}
+use Rattle.ver_check.specs.Scopes.{Declaration, Scope, declaration_of, kind_of, kind_bits, register_bits, word_bits, found_by, bits_of}
+use Rattle.ver_check.specs.ItemFaults.{Before, Driver}
 
 abbrev pub kind_as : Declared → Kind
 kind_as ClockInput = kind.ClockInput

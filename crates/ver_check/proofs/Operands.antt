@@ -5,9 +5,9 @@ use Rattle.std.proofs.lemmas.List.{append_assoc}
 use Rattle.ver_ast.specs.declared.place.VPlace.{VPlace}
 use Rattle.ver_ast.specs.Atoms.{AtomTree, AtomTrees, atom_before}
 use Rattle.ver_ast.specs.Grammar.{atom_tokens, next_atom_tokens}
-use Rattle.ver_check.specs.working.Scopes.{Scope}
-use Rattle.ver_places.specs.working.Places.{behind}
-use Rattle.ver_check.specs.working.OperandFaults.{sum_of, atom_bits, atom_faults, joined_bits, joined_faults}
+use Rattle.ver_check.specs.Scopes.{Scope}
+use Rattle.ver_places.specs.Places.{behind}
+use Rattle.ver_check.specs.OperandFaults.{sum_of, atom_bits, atom_faults, joined_bits, joined_faults}
 use Rattle.ver_check.specs.declared.operand.Judged.{Judged}
 use Rattle.ver_check.specs.working.Judged.{IsAmid, IsBeside, IsJudged}
 use Rattle.ver_places.proofs.PlacesBehind.{behind_both}

@@ -3,12 +3,12 @@ use Rattle.std.proofs.Common.{◌≡◌, ℕ, ◌+◌, ◌<◌, ◌≤◌, ◌^�
 use Rattle.std.specs.Prelude.{Option, Some, None, nat_eq, nat_lt, ◌&&◌, if◌then◌else◌}
 use Rattle.std.proofs.lemmas.Bool.{and_from, and_parts, eq-eqb, eqb-true, lt-ltb, ltb-true}
 use Rattle.ver_ast.specs.declared.place.VPlace.{VPlace}
-use Rattle.ver_fault.specs.working.Faults.{VFault}
+use Rattle.ver_fault.specs.Faults.{VFault}
 use Rattle.ver_valid.specs.working.Declarations.{IsNarrow}
 use Rattle.ver_check.specs.declared.kind.Kind.{Kind}
-use Rattle.ver_check.specs.working.FaultForms.{kind_fault, width_fault}
-use Rattle.ver_check.specs.working.Scopes.{found_by}
-use Rattle.ver_check.specs.working.OperandFaults.{is_constant_fit, is_narrow, is_within, lacking_faults, name_faults, own_faults, unfit_faults, width_faults}
+use Rattle.ver_check.specs.FaultForms.{kind_fault, width_fault}
+use Rattle.ver_check.specs.Scopes.{found_by}
+use Rattle.ver_check.specs.OperandFaults.{is_constant_fit, is_narrow, is_within, lacking_faults, name_faults, own_faults, unfit_faults, width_faults}
 use Rattle.ver_check.proofs.Faultless.{first_empty, second_empty}
 
 pub none_of_both : (fs gs : List VFault) → fs ≡ [] → gs ≡ [] → fs ++ gs ≡ []

@@ -18,14 +18,14 @@ use Rattle.ver_ast.specs.AtomForms.{constant_number}
 use Rattle.ver_ast.specs.Grammar.{atom_tokens, item_tokens}
 use Rattle.ver_ast.specs.SoundSides.{signed_rule}
 use Rattle.ver_ast.specs.Names.{atom_names, joined_names, rhs_names}
-use Rattle.ver_places.specs.working.Places.{behind, place_at}
+use Rattle.ver_places.specs.Places.{behind, place_at}
 use Rattle.ver_check.specs.declared.kind.Kind.{Kind}
 use Rattle.ver_check.specs.declared.kind.Kind.TheVariants as kind
-use Rattle.ver_check.specs.working.Scopes.{Declaration, Scope, bits_of, declaration_of, found_by, kind_bits, kind_of, register_bits}
-use Rattle.ver_check.specs.working.OperandFaults.{atom_bits, atom_faults, is_constant_fit, joined_faults, name_faults, own_faults, width_faults}
-use Rattle.ver_check.specs.working.SideFaults.{first_needs, second_needs, side_faults, signed_faults}
-use Rattle.ver_check.specs.working.ItemFaults.{Before, assign_faults_by, driven_faults, driver_of, item_faults, register_faults, reset_faults, resetting_faults_by, tested_faults}
-use Rattle.ver_check.specs.working.TreeFaults.{behind_item, behind_items, items_faults}
+use Rattle.ver_check.specs.Scopes.{Declaration, Scope, bits_of, declaration_of, found_by, kind_bits, kind_of, register_bits}
+use Rattle.ver_check.specs.OperandFaults.{atom_bits, atom_faults, is_constant_fit, joined_faults, name_faults, own_faults, width_faults}
+use Rattle.ver_check.specs.SideFaults.{first_needs, second_needs, side_faults, signed_faults}
+use Rattle.ver_check.specs.ItemFaults.{Before, assign_faults_by, driven_faults, driver_of, item_faults, register_faults, reset_faults, resetting_faults_by, tested_faults}
+use Rattle.ver_check.specs.TreeFaults.{behind_item, behind_items, items_faults}
 use Rattle.ver_check.proofs.Faultless.{first_empty, second_empty}
 use Rattle.ver_check.proofs.OwnFaults.{IsMet, named_bits, own_met, width_met}
 use Rattle.ver_check.proofs.StepsBehind.{adds}

@@ -5,8 +5,8 @@ use Rattle.std.proofs.lemmas.Bool.{eq-eqb, eqb-true, not-false}
 use Rattle.ver_ast.specs.declared.tree.UnaryOp.{UnaryOp}
 use Rattle.ver_ast.specs.declared.tree.UnaryOp.TheVariants as unary
 use Rattle.ver_ast.specs.SoundSides.{OperandRule, arithmetic, shift, comparison, KeepsRule, KeepsUnary}
-use Rattle.ver_fault.specs.working.Faults.{VFault}
-use Rattle.ver_check.specs.working.SideFaults.{first_needs, is_comparison, is_reduction, second_needs, unary_needs}
+use Rattle.ver_fault.specs.Faults.{VFault}
+use Rattle.ver_check.specs.SideFaults.{first_needs, is_comparison, is_reduction, second_needs, unary_needs}
 use Rattle.ver_check.proofs.OwnFaults.{IsMet, untested}
 
 pub one_bit : (truth : Bool) (w : ℕ) (f : VFault) → (if truth && not (nat_eq w 1) then f ∷ [] else []) ≡ [] → truth ≡ true → w ≡ 1

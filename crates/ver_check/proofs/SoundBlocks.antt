@@ -22,11 +22,11 @@ use Rattle.ver_ast.proofs.Nets.{reg_is_net}
 use Rattle.ver_valid.specs.working.Scopes.{IsFine}
 use Rattle.ver_valid.specs.working.Walks.{IsNextBlock, written_names}
 use Rattle.ver_valid.proofs.Fine.{fine_narrow}
-use Rattle.ver_check.specs.working.Scopes.{Scope, bits_of, kind_bits, kind_of, register_bits, word_bits}
-use Rattle.ver_places.specs.working.Places.{behind, place_at}
-use Rattle.ver_check.specs.working.OperandFaults.{atom_faults, is_constant_fit, width_faults}
-use Rattle.ver_check.specs.working.SideFaults.{clock_faults, misplaced_faults}
-use Rattle.ver_check.specs.working.ItemFaults.{Before, again_faults, always_faults, at_array, driven_faults, driver_of, more_writes_faults, register_faults, reset_faults, resetting_faults, resetting_faults_by, tested_faults, writes_faults, writing_faults, written_faults}
+use Rattle.ver_check.specs.Scopes.{Scope, bits_of, kind_bits, kind_of, register_bits, word_bits}
+use Rattle.ver_places.specs.Places.{behind, place_at}
+use Rattle.ver_check.specs.OperandFaults.{atom_faults, is_constant_fit, width_faults}
+use Rattle.ver_check.specs.SideFaults.{clock_faults, misplaced_faults}
+use Rattle.ver_check.specs.ItemFaults.{Before, again_faults, always_faults, at_array, driven_faults, driver_of, more_writes_faults, register_faults, reset_faults, resetting_faults, resetting_faults_by, tested_faults, writes_faults, writing_faults, written_faults}
 use Rattle.ver_check.proofs.DriverNames.{none_driven}
 use Rattle.ver_check.proofs.OwnFaults.{IsMet, bits_named, constant_fits, met_width, none_of_both, own_none}
 use Rattle.ver_check.proofs.SoundSides.{none_at, none_wide, sound_clock}

@@ -18,12 +18,12 @@ use Rattle.ver_ast.specs.Valid.{IsClockSide}
 use Rattle.ver_valid.specs.working.Declarations.{IsNarrow, IsNarrowKind, kind_of as port_kind_of}
 use Rattle.ver_valid.specs.working.Scopes.{IsFine}
 use Rattle.ver_valid.specs.working.Walks.{IsFresh, IsNextAssign, IsNextItem, IsNextNet, IsNextPort, assigned_names, words_of}
-use Rattle.ver_check.specs.working.FaultForms.{kind_fault}
+use Rattle.ver_check.specs.FaultForms.{kind_fault}
 use Rattle.ver_check.specs.declared.kind.Kind.{Kind}
 use Rattle.ver_check.specs.declared.kind.Kind.TheVariants as kind
-use Rattle.ver_check.specs.working.Scopes.{Declaration, Scope, declaration_of, kind_of}
-use Rattle.ver_places.specs.working.Places.{place_at, range_places}
-use Rattle.ver_check.specs.working.ItemFaults.{Before, array_faults, assign_faults, assign_faults_by, clock_port_faults, declared_faults, driven_faults, driver_of, item_faults, named_faults, net_assign_faults, port_faults}
+use Rattle.ver_check.specs.Scopes.{Declaration, Scope, declaration_of, kind_of}
+use Rattle.ver_places.specs.Places.{place_at, range_places}
+use Rattle.ver_check.specs.ItemFaults.{Before, array_faults, assign_faults, assign_faults_by, clock_port_faults, declared_faults, driven_faults, driver_of, item_faults, named_faults, net_assign_faults, port_faults}
 use Rattle.ver_check.proofs.DriverNames.{none_driven}
 use Rattle.ver_check.proofs.OwnFaults.{is_narrow_from, none_of_both}
 use Rattle.ver_check.proofs.SoundSides.{sound_clock_side, sound_side, sound_truth}

@@ -12,10 +12,10 @@ use Rattle.ver_ast.specs.SoundSides.{IsSound, AreSound}
 use Rattle.ver_valid.specs.working.Declarations.{IsNarrow}
 use Rattle.ver_valid.specs.working.Scopes.{IsFine}
 use Rattle.ver_valid.proofs.Fine.{fine_narrow, width_of_net}
-use Rattle.ver_check.specs.working.Scopes.{Scope, kind_bits, kind_of, bits_of}
-use Rattle.ver_places.specs.working.Places.{behind, place_at}
-use Rattle.ver_check.specs.working.OperandFaults.{are_narrow, atom_bits, atom_faults, is_fit, is_within, joined_bits, joined_faults, net_faults, whole_faults}
-use Rattle.ver_check.specs.working.ItemFaults.{Before}
+use Rattle.ver_check.specs.Scopes.{Scope, kind_bits, kind_of, bits_of}
+use Rattle.ver_places.specs.Places.{behind, place_at}
+use Rattle.ver_check.specs.OperandFaults.{are_narrow, atom_bits, atom_faults, is_fit, is_within, joined_bits, joined_faults, net_faults, whole_faults}
+use Rattle.ver_check.specs.ItemFaults.{Before}
 use Rattle.ver_check.proofs.OwnFaults.{IsMet, bits_named, constant_fits, is_narrow_from, none_of_both, own_none, within_from}
 use Rattle.ver_check.proofs.FaultlessOperands.{sum_is}
 use Rattle.ver_check.proofs.Mirrors.{Mirrors, net_bits}

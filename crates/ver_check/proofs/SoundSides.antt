@@ -13,13 +13,13 @@ use Rattle.ver_ast.specs.Nets.{arrays, nets}
 use Rattle.ver_ast.specs.SoundSides.{HasSideWidths, HasWidth, IsOperand, IsSoundSide, binary_rule, signed_rule}
 use Rattle.ver_ast.specs.Valid.{IsClockSide}
 use Rattle.ver_valid.specs.working.Scopes.{IsFine}
-use Rattle.ver_check.specs.working.FaultForms.{kind_fault}
+use Rattle.ver_check.specs.FaultForms.{kind_fault}
 use Rattle.ver_check.specs.declared.kind.Kind.TheVariants as kind
-use Rattle.ver_check.specs.working.Scopes.{Scope, kind_of, word_bits}
-use Rattle.ver_places.specs.working.Places.{behind, place_at}
-use Rattle.ver_check.specs.working.OperandFaults.{atom_bits, atom_faults, width_faults}
-use Rattle.ver_check.specs.working.SideFaults.{clock_faults, clock_side_faults, first_needs, is_truth, second_needs, side_faults, signed_faults, truth_faults, unary_needs}
-use Rattle.ver_check.specs.working.ItemFaults.{Before}
+use Rattle.ver_check.specs.Scopes.{Scope, kind_of, word_bits}
+use Rattle.ver_places.specs.Places.{behind, place_at}
+use Rattle.ver_check.specs.OperandFaults.{atom_bits, atom_faults, width_faults}
+use Rattle.ver_check.specs.SideFaults.{clock_faults, clock_side_faults, first_needs, is_truth, second_needs, side_faults, signed_faults, truth_faults, unary_needs}
+use Rattle.ver_check.specs.ItemFaults.{Before}
 use Rattle.ver_check.proofs.OwnFaults.{IsMet, bits_named, met_width, none_of_both}
 use Rattle.ver_check.proofs.SideWidths.{rule_met, truth_none, unary_met}
 use Rattle.ver_check.proofs.SoundOperands.{sound_bits, sound_operand}

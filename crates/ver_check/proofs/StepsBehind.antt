@@ -21,9 +21,9 @@ use Rattle.ver_valid.specs.working.Scopes.{IsFine}
 use Rattle.ver_valid.specs.working.Walks.{IsFresh, IsNextItem, IsNextNet, IsNextPort, assigned_names, item_target, item_written, with_items, with_ports, words_of, written_names}
 use Rattle.ver_valid.proofs.Steps.{arrays_more, assigned_more, entries_more, written_more}
 use Rattle.ver_check.specs.declared.kind.Kind.{Kind}
-use Rattle.ver_check.specs.working.Scopes.{Declaration}
-use Rattle.ver_check.specs.working.ItemFaults.{Before, Driver}
-use Rattle.ver_check.specs.working.TreeFaults.{behind_item, behind_port, behind_writes, kind_by}
+use Rattle.ver_check.specs.Scopes.{Declaration}
+use Rattle.ver_check.specs.ItemFaults.{Before, Driver}
+use Rattle.ver_check.specs.TreeFaults.{behind_item, behind_port, behind_writes, kind_by}
 use Rattle.ver_check.proofs.Mirrors.{Mirrors, driver_names, kind_as, named, named_entry}
 
 -- what holds of what stands before, beside the tree of it

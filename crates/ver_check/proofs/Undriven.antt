@@ -8,12 +8,12 @@ use Rattle.ver_ast.specs.declared.place.VPlace.{VPlace}
 use Rattle.ver_ast.specs.declared.tree.Edge.{Edge}
 use Rattle.ver_ast.specs.declared.tree.Resetting.{Resetting}
 use Rattle.ver_ast.specs.declared.tree.Write.{Write}
-use Rattle.ver_fault.specs.working.Faults.{VFault}
-use Rattle.ver_places.specs.working.Places.{place_at}
-use Rattle.ver_check.specs.working.FaultForms.{undriven_fault}
-use Rattle.ver_check.specs.working.Scopes.{Declaration, Scope, is_driven}
-use Rattle.ver_check.specs.working.ItemFaults.{Before, Driver, at_array, driven_faults, driver_of, resetting_faults, resetting_faults_by, tested_faults, writes_faults}
-use Rattle.ver_check.specs.working.TreeFaults.{is_assigned, undriven_of, behind_writes, with_written}
+use Rattle.ver_fault.specs.Faults.{VFault}
+use Rattle.ver_places.specs.Places.{place_at}
+use Rattle.ver_check.specs.FaultForms.{undriven_fault}
+use Rattle.ver_check.specs.Scopes.{Declaration, Scope, is_driven}
+use Rattle.ver_check.specs.ItemFaults.{Before, Driver, at_array, driven_faults, driver_of, resetting_faults, resetting_faults_by, tested_faults, writes_faults}
+use Rattle.ver_check.specs.TreeFaults.{is_assigned, undriven_of, behind_writes, with_written}
 use Rattle.ver_check.specs.working.Walks.{due_of, missing_faults}
 use Rattle.ver_check.proofs.Faultless.{first_empty, second_empty}
 use Rattle.std.proofs.lemmas.List.{append-nil, append_assoc}

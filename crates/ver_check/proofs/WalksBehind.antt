@@ -7,9 +7,9 @@ use Rattle.ver_ast.specs.declared.tree.Port.{Port}
 use Rattle.ver_ast.specs.declared.tree.Item.{Item}
 use Rattle.ver_ast.specs.Grammar.{item_tokens, port_tokens}
 use Rattle.ver_valid.specs.working.Walks.{AreNextItems, AreNextPorts, no_ports, with_items, with_ports}
-use Rattle.ver_places.specs.working.Places.{behind}
-use Rattle.ver_check.specs.working.ItemFaults.{Before, item_faults, port_faults}
-use Rattle.ver_check.specs.working.TreeFaults.{behind_item, behind_items, behind_port, behind_ports, items_faults, nothing_before, ports_faults}
+use Rattle.ver_places.specs.Places.{behind}
+use Rattle.ver_check.specs.ItemFaults.{Before, item_faults, port_faults}
+use Rattle.ver_check.specs.TreeFaults.{behind_item, behind_items, behind_port, behind_ports, items_faults, nothing_before, ports_faults}
 use Rattle.ver_check.specs.working.Laws.{IsShallowItem}
 use Rattle.ver_check.proofs.Faultless.{first_empty, second_empty}
 use Rattle.ver_check.proofs.OwnFaults.{none_of_both}

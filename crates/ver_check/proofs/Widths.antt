@@ -4,7 +4,7 @@ use Rattle.std.specs.Prelude.{Option, Some, None, nat_lt, ◌&&◌, option_map}
 use Rattle.std.proofs.lemmas.Bool.{ltb-true, ltb-false}
 use Rattle.fir_bits.proofs.Powers.{pow_le}
 use Rattle.ver_ast.specs.AtomForms.{number_of}
-use Rattle.ver_check.specs.working.OperandFaults.{is_narrow, is_constant_fit}
+use Rattle.ver_check.specs.OperandFaults.{is_narrow, is_constant_fit}
 use Rattle.ver_check.specs.working.Judged.{capped}
 
 times_capped : (count w : ℕ) → min (count * min w 129) 129 ≡ min (count * w) 129

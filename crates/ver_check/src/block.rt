@@ -2,12 +2,12 @@
 
 ghost use Rattle.std.specs.Prelude.{◌≡◌, ◌≤◌, List, None, Some, IfOk, drop};
 ghost use Rattle.ver_ast.specs.Grammar.{atom_tokens, write_tokens};
-ghost use Rattle.ver_check.specs.working.Scopes.{bits_of, register_bits, word_bits};
-ghost use Rattle.ver_places.specs.working.Places.{behind as places_behind};
-ghost use Rattle.ver_check.specs.working.OperandFaults.{is_constant_fit, own_faults};
+ghost use Rattle.ver_check.specs.Scopes.{bits_of, register_bits, word_bits};
+ghost use Rattle.ver_places.specs.Places.{behind as places_behind};
+ghost use Rattle.ver_check.specs.OperandFaults.{is_constant_fit, own_faults};
 ghost use Rattle.ver_ast.specs.AtomForms.{constant_number};
-ghost use Rattle.ver_check.specs.working.ItemFaults as spec;
-ghost use Rattle.ver_check.specs.working.ItemFaults.{Before, Driver, driven_faults, driver_of};
+ghost use Rattle.ver_check.specs.ItemFaults as spec;
+ghost use Rattle.ver_check.specs.ItemFaults.{Before, Driver, driven_faults, driver_of};
 ghost use Rattle.ver_check.specs.working.Findings.{Finds};
 ghost use Rattle.ver_check.specs.working.Known.{Drives, driver_in};
 ghost use Rattle.ver_check.specs.working.Blocks.{HasScope};

@@ -1,7 +1,7 @@
 //! The names that have a driver.
 
 ghost use Rattle.std.specs.Prelude.{◌≡◌, List, [], ◌∷◌, ◌++◌, OnOk};
-ghost use Rattle.ver_check.specs.working.ItemFaults.{Driver};
+ghost use Rattle.ver_check.specs.ItemFaults.{Driver};
 ghost use Rattle.ver_check.specs.working.Known.{Drives, driver_in};
 
 use fir_base::{MemoryOut, Name};

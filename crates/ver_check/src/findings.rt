@@ -1,8 +1,8 @@
 //! Faults as they are found.
 
 ghost use Rattle.std.specs.Prelude.{◌≡◌, ◌++◌, IfOk, [], ◌∷◌, List};
-ghost use Rattle.ver_fault.specs.working.Faults.{VFault};
-ghost use Rattle.ver_check.specs.working.FaultForms.{twice_fault, undeclared_fault};
+ghost use Rattle.ver_fault.specs.Faults.{VFault};
+ghost use Rattle.ver_check.specs.FaultForms.{twice_fault, undeclared_fault};
 ghost use Rattle.ver_check.specs.working.Findings.{Finds, IsFirst};
 
 use fir_base::{MemoryOut, Name, Refused};

@@ -1,7 +1,7 @@
 //! What a name is declared as (IEEE 1364-2005, 4.2, 4.9, 12.3).
 
 ghost use Rattle.std.specs.Prelude.{◌≡◌};
-ghost use Rattle.ver_check.specs.working.Scopes.{is_clock_input, is_driven, kind_bits, register_bits, word_bits};
+ghost use Rattle.ver_check.specs.Scopes.{is_clock_input, is_driven, kind_bits, register_bits, word_bits};
 
 /// What a name is declared as, with its width in bits, and that of the words of an array.
 #[derive(Clone, Copy)]

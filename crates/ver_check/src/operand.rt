@@ -3,9 +3,9 @@
 ghost use Rattle.std.specs.Prelude.{◌≡◌, ◌+◌, ◌-◌, ◌*◌, ℕ, Option, Some, None, IfOk, drop, nat_lt, option_map, if◌then◌else◌};
 ghost use Rattle.ver_ast.specs.Atoms.{atoms_of, net, part_select};
 ghost use Rattle.ver_ast.specs.AtomForms.{constant_number};
-ghost use Rattle.ver_check.specs.working.Scopes.{Scope as Declarations};
-ghost use Rattle.ver_places.specs.working.Places.{place_at};
-ghost use Rattle.ver_check.specs.working.OperandFaults.{is_constant_fit, is_narrow, is_within, own_faults, sum_of, unfit_faults, width_faults};
+ghost use Rattle.ver_check.specs.Scopes.{Scope as Declarations};
+ghost use Rattle.ver_places.specs.Places.{place_at};
+ghost use Rattle.ver_check.specs.OperandFaults.{is_constant_fit, is_narrow, is_within, own_faults, sum_of, unfit_faults, width_faults};
 ghost use Rattle.ver_check.specs.working.Findings.{IsFirst};
 ghost use Rattle.ver_check.specs.working.Known.{Knows};
 ghost use Rattle.ver_check.specs.working.Judged.{IsBehind, IsBeside, IsJudged, IsName, IsNamed, IsNeeded, IsOver, capped};

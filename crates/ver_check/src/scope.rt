@@ -1,7 +1,7 @@
 //! The names that are declared so far.
 
 ghost use Rattle.std.specs.Prelude.{◌≡◌, [], ◌∷◌, ◌++◌, None, OnOk};
-ghost use Rattle.ver_check.specs.working.Scopes.{Scope as Declarations};
+ghost use Rattle.ver_check.specs.Scopes.{Scope as Declarations};
 ghost use Rattle.ver_check.specs.working.Known.{IsNarrowKind, Knows, found, declared};
 
 use crate::kind::Kind;

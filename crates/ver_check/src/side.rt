@@ -2,10 +2,10 @@
 
 ghost use Rattle.std.specs.Prelude.{◌≡◌, ◌≤◌, ◌++◌, ℕ, Option, Some, IfOk};
 ghost use Rattle.ver_ast.specs.SoundSides as sound;
-ghost use Rattle.ver_check.specs.working.Scopes.{Scope as Declarations, bits_of, kind_of, word_bits};
-ghost use Rattle.ver_check.specs.working.OperandFaults.{atom_faults, name_faults, width_faults};
-ghost use Rattle.ver_check.specs.working.SideFaults as spec;
-ghost use Rattle.ver_check.specs.working.SideFaults.{clock_faults, clock_side_faults, misplaced_atom as misplaced_atom_faults, misplaced_faults, shown_clock_faults, side_faults, signed_faults, truth_faults};
+ghost use Rattle.ver_check.specs.Scopes.{Scope as Declarations, bits_of, kind_of, word_bits};
+ghost use Rattle.ver_check.specs.OperandFaults.{atom_faults, name_faults, width_faults};
+ghost use Rattle.ver_check.specs.SideFaults as spec;
+ghost use Rattle.ver_check.specs.SideFaults.{clock_faults, clock_side_faults, misplaced_atom as misplaced_atom_faults, misplaced_faults, shown_clock_faults, side_faults, signed_faults, truth_faults};
 ghost use Rattle.ver_check.specs.working.Findings.{Finds};
 ghost use Rattle.ver_check.specs.working.Known.{Knows};
 ghost use Rattle.ver_check.specs.working.Judged.{IsNeeded, capped};

@@ -2,12 +2,12 @@
 
 ghost use Rattle.std.specs.Prelude.{◌≡◌, ◌≤◌, List, None, [], IsTrue};
 ghost use Rattle.ver_ast.specs.declared.tree.Item.TheVariants as item_form;
-ghost use Rattle.ver_check.specs.working.Scopes.{declaration_of};
-ghost use Rattle.ver_check.specs.working.OperandFaults.{is_narrow};
-ghost use Rattle.ver_check.specs.working.ItemFaults.{Before, Driver, array_faults, assign_faults, clock_assign_faults, declared_faults, driver_of, item_faults, named_faults, net_assign_faults, no_range_faults, port_faults, range_faults, writes_faults, writing_faults};
-ghost use Rattle.ver_places.specs.working.Places.{port_places};
-ghost use Rattle.ver_check.specs.working.TreeFaults.{behind_all, behind_items, behind_net, behind_ports, behind_writes, misfits, items_faults, kind_by, nothing_before, ports_faults, reset_place, undriven_of, with_declared, with_written};
-ghost use Rattle.ver_check.specs.working.TreeFaults.{behind_item as standing_behind_item, behind_port as standing_behind_port};
+ghost use Rattle.ver_check.specs.Scopes.{declaration_of};
+ghost use Rattle.ver_check.specs.OperandFaults.{is_narrow};
+ghost use Rattle.ver_check.specs.ItemFaults.{Before, Driver, array_faults, assign_faults, clock_assign_faults, declared_faults, driver_of, item_faults, named_faults, net_assign_faults, no_range_faults, port_faults, range_faults, writes_faults, writing_faults};
+ghost use Rattle.ver_places.specs.Places.{port_places};
+ghost use Rattle.ver_check.specs.TreeFaults.{behind_all, behind_items, behind_net, behind_ports, behind_writes, misfits, items_faults, kind_by, nothing_before, ports_faults, reset_place, undriven_of, with_declared, with_written};
+ghost use Rattle.ver_check.specs.TreeFaults.{behind_item as standing_behind_item, behind_port as standing_behind_port};
 ghost use Rattle.ver_check.specs.working.Findings.{Finds};
 ghost use Rattle.ver_check.specs.working.Known.{Drives, IsNarrowKind, Knows, declared};
 ghost use Rattle.ver_check.specs.working.Blocks.{HasScope};

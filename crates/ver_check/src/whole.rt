@@ -1,6 +1,6 @@
 //! What is wrong with a tree.
 
-ghost use Rattle.ver_check.specs.working.TreeFaults.{misfits, undriven};
+ghost use Rattle.ver_check.specs.TreeFaults.{misfits, undriven};
 ghost use Rattle.ver_check.specs.working.Findings.{Finds, FindsElse};
 
 use crate::walk::Walk;

@@ -1,1 +1,3 @@
-pub mod working
+pub mod Faults
+pub mod Texts
+pub mod View

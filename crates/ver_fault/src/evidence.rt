@@ -1,8 +1,8 @@
 //! What a fault's line says behind the place.
 
 ghost use Rattle.std.specs.Prelude.{◌≡◌, ◌++◌, OnOk, codes, decimal};
-ghost use Rattle.ver_fault.specs.working.Texts.{byte_text, vplace_text, walk_text};
-ghost use Rattle.ver_fault.specs.working.View.{vevidence};
+ghost use Rattle.ver_fault.specs.Texts.{byte_text, vplace_text, walk_text};
+ghost use Rattle.ver_fault.specs.View.{vevidence};
 
 use crate::fault::VerFault;
 use crate::place::put_place;

@@ -78,7 +78,7 @@ impl Drop for VerFault {
 
 impl VerFault {
     ghost use Rattle.std.specs.Prelude.{◌≡◌};
-    ghost use Rattle.ver_fault.specs.working.View.{vfault_place};
+    ghost use Rattle.ver_fault.specs.View.{vfault_place};
 
     /// Where the fault stands.
     pub fn place(&self) -> VPlace

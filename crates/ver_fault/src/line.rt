@@ -8,8 +8,8 @@ use std::alloc::Global;
 
 impl VerFault {
     ghost use Rattle.std.specs.Prelude.{◌≡◌, ◌++◌, IfOk, OnErr, OnOk};
-    ghost use Rattle.ver_fault.specs.working.Faults.{vcode_word, vfault_line};
-    ghost use Rattle.ver_fault.specs.working.View.{vcode_of, vfault_of};
+    ghost use Rattle.ver_fault.specs.Faults.{vcode_word, vfault_line};
+    ghost use Rattle.ver_fault.specs.View.{vcode_of, vfault_of};
 
     /// Appends the line of the fault: its code, its place as line and column from 1, its evidence, parted by single
     /// spaces, and a newline. Where memory is wanting, `out` is as before.

@@ -1,7 +1,7 @@
 //! Places as text.
 
 ghost use Rattle.std.specs.Prelude.{◌≡◌, ◌++◌, OnOk};
-ghost use Rattle.ver_fault.specs.working.Texts.{vplace_text};
+ghost use Rattle.ver_fault.specs.Texts.{vplace_text};
 
 use fir_base::{MemoryOut, put_decimal};
 use ver_ast::VPlace;

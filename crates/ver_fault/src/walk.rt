@@ -1,7 +1,7 @@
 //! Walks as text.
 
 ghost use Rattle.std.specs.Prelude.{◌≡◌, ◌++◌, OnOk, codes, flat_map};
-ghost use Rattle.ver_fault.specs.working.Texts.{next_text, walk_text};
+ghost use Rattle.ver_fault.specs.Texts.{next_text, walk_text};
 
 use fir_base::{MemoryOut, Name};
 

@@ -9,7 +9,7 @@ use Rattle.ver_ast.specs.Pieces.{blank, line_comment, block_comment, spelled, qu
 use Rattle.ver_ast.proofs.Reach.{NotNext}
 use Rattle.ver_ast.proofs.TokenPieces.{constant_no_comment}
 use Rattle.ver_ast.proofs.TokensFound.{is_byte}
-use Rattle.ver_lex.specs.working.Lexed.{BeginsNoPiece}
+use Rattle.ver_lex.specs.Lexed.{BeginsNoPiece}
 use Rattle.ver_lex.specs.working.Fronts.{line_length, ends_block, block_length, block_front}
 use Rattle.ver_lex.proofs.Runs.{AllPass, run, same_runs}
 use Rattle.ver_lex.proofs.Standing.{Stands, no_tokens, FrontStands}

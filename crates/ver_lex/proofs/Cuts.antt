@@ -4,7 +4,7 @@ use Rattle.ver_ast.specs.Pieces.{VPiece, bytes_of_piece, PlacedToken, place_afte
 use Rattle.ver_lex.specs.declared.bad_byte.BadByte.{BadByte}
 use Rattle.ver_lex.specs.declared.piece.Piece.{Piece}
 use Rattle.ver_lex.specs.declared.piece.Piece.TheVariants as piece
-use Rattle.ver_lex.specs.working.Lexed.{AreVPiecesBefore, BeginsNoPiece, StopsAt}
+use Rattle.ver_lex.specs.Lexed.{AreVPiecesBefore, BeginsNoPiece, StopsAt}
 use Rattle.ver_lex.specs.working.Fronts.{front}
 use Rattle.ver_lex.proofs.FrontPieces.{front_stands}
 use Rattle.ver_lex.proofs.Standing.{Stands, FrontStands}

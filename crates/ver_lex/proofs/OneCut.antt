@@ -13,7 +13,7 @@ use Rattle.ver_ast.proofs.Reach.{in_base, all_tested, constant_longest}
 use Rattle.ver_ast.proofs.TokenPieces.{constant_no_comment}
 use Rattle.ver_ast.proofs.OnePlace.{one_place}
 use Rattle.ver_lex.specs.declared.bad_byte.BadByte.{BadByte}
-use Rattle.ver_lex.specs.working.Lexed.{AreVPiecesBefore, BeginsNoPiece, StopsAt}
+use Rattle.ver_lex.specs.Lexed.{AreVPiecesBefore, BeginsNoPiece, StopsAt}
 use Rattle.ver_lex.proofs.FirstBytes.{BeginsToken, no_bytes, token_first}
 use Rattle.ver_lex.proofs.CommentPieces.{no_blank_slash, same_line, same_block_length}
 

@@ -13,7 +13,7 @@ use Rattle.ver_ast.proofs.TokenPieces.{lone_piece, double_piece, shift_piece, si
 use Rattle.ver_ast.proofs.TokensFound.{is_byte, double_in}
 use Rattle.ver_lex.specs.declared.kind.Kind.TheVariants as kind
 use Rattle.ver_lex.specs.declared.piece.Piece.TheVariants as piece
-use Rattle.ver_lex.specs.working.Lexed.{BeginsNoPiece}
+use Rattle.ver_lex.specs.Lexed.{BeginsNoPiece}
 use Rattle.ver_lex.specs.working.Fronts.{begins_double, sign_front}
 use Rattle.ver_lex.proofs.FirstBytes.{BeginsToken, no_bytes, token_first}
 use Rattle.ver_lex.proofs.Prefixes.{begins, never}

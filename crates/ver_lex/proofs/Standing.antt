@@ -7,7 +7,7 @@ use Rattle.ver_lex.specs.declared.kind.Kind.{Kind}
 use Rattle.ver_lex.specs.declared.kind.Kind.TheVariants as kind
 use Rattle.ver_lex.specs.declared.piece.Piece.{Piece}
 use Rattle.ver_lex.specs.declared.piece.Piece.TheVariants as piece
-use Rattle.ver_lex.specs.working.Lexed.{BeginsNoPiece}
+use Rattle.ver_lex.specs.Lexed.{BeginsNoPiece}
 use Rattle.ver_lex.specs.working.View.{width_of, value_of, token_of, HasBytes}
 
 -- a piece of n bytes, with these tokens behind the bytes before it

@@ -11,7 +11,8 @@ use Rattle.ver_lex.specs.declared.kind.Kind.TheVariants as kind
 use Rattle.ver_lex.specs.declared.lexer.Lexer.{Lexer}
 use Rattle.ver_lex.specs.declared.piece.Piece.{Piece}
 use Rattle.ver_lex.specs.declared.bad_byte.BadByte.{BadByte}
-use Rattle.ver_lex.specs.working.Lexed.{Lexed, AreVPiecesBefore, BeginsNoPiece, StopsAt, IsLexed}
+use Rattle.ver_lex.specs.working.Lexed.{Lexed, IsLexed}
+use Rattle.ver_lex.specs.Lexed.{AreVPiecesBefore, BeginsNoPiece, StopsAt}
 use Rattle.ver_lex.specs.working.Bytes.{place_behind}
 use Rattle.ver_lex.specs.working.Fronts.{front}
 use Rattle.ver_lex.specs.working.View.{token_of}

@@ -1,4 +1,4 @@
--- What no clause of `run` reads: which tokens a text has, laws, views of the code and its states.
+-- What no clause of `run` reads: laws, views of the code and its states.
 pub mod Bytes
 pub mod Fronts
 pub mod View

@@ -1,6 +1,6 @@
 //! The tokens of a text in the Verilog subset, each with its place (IEEE 1364-2005, 3.1 to 3.8).
 //! What goes in is any text of at most 16777216 bytes. What comes out is the list of tokens that the
-//! definitions give the text, or those before its first byte that is in none, with that byte (`specs/working/`, IsLexed).
+//! definitions give the text, or those before its first byte that is in none, with that byte (`specs/working/`, IsLexed; `specs/`, StopsAt).
 //! Only want of memory is free. The time is linear in the bytes.
 #![tactic(auto)]
 

@@ -11,7 +11,7 @@ use Rattle.ver_ast.specs.declared.tree.Verilog.{Verilog}
 use Rattle.ver_ast.specs.Processes.{processes, process_reads, process_targets, target}
 use Rattle.ver_valid.specs.working.Circles.{IsCircle, ReadOn, ReadsFrom}
 use Rattle.ver_valid.proofs.ProcessReads.{get_mapped, only_some}
-use Rattle.ver_loop.specs.working.Loops.{Chained, Depends, IsClosedWalk}
+use Rattle.ver_loop.specs.Loops.{Chained, Depends, IsClosedWalk}
 use Rattle.ver_loop.specs.working.Rounds.{named, round}
 
 module _ (v : Verilog) (once : Distinct (process_targets (processes v))) where

@@ -8,7 +8,7 @@ use Rattle.ver_ast.specs.Processes.{Process, processes, target}
 use Rattle.ver_ast.proofs.Processes.{by_kind}
 use Rattle.ver_valid.proofs.TreeMembers.{assign_at}
 use Rattle.ver_check.proofs.FaultlessProcesses.{reset_at}
-use Rattle.ver_loop.specs.working.Loops.{Chained, Depends, IsClosedWalk, item_gives}
+use Rattle.ver_loop.specs.Loops.{Chained, Depends, IsClosedWalk, item_gives}
 
 abbrev Given : Verilog → List ℕ → Type 0
 Given v n = (i : Item) × In v.items i × In (item_gives i) n

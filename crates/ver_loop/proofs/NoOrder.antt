@@ -9,7 +9,7 @@ use Rattle.ver_ast.specs.Processes.{Process, processes, process_targets, target}
 use Rattle.ver_ast.specs.Valid.{IsOrder}
 use Rattle.ver_valid.proofs.ProcessOrders.{place_of, read_earlier}
 use Rattle.ver_valid.proofs.Ready.{IsReady, target_no_source}
-use Rattle.ver_loop.specs.working.Loops.{Chained, Depends, IsClosedWalk}
+use Rattle.ver_loop.specs.Loops.{Chained, Depends, IsClosedWalk}
 use Rattle.ver_loop.proofs.Givers.{first_depends}
 
 module _ (v : Verilog) (ready : IsReady v) (order : List Process) (o : IsOrder v order) where

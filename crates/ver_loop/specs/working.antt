@@ -1,4 +1,4 @@
--- What no clause of `run` reads: closed walks, the law about them, and contracts between layers.
+-- What no clause of `run` reads: the law about closed walks, and contracts between layers.
 pub mod Loops
 pub mod Laws
 pub mod Rounds

@@ -3,7 +3,7 @@
 ghost use Rattle.std.specs.Prelude.{◌≡◌, ◌↔◌, IfOk, IsTrue};
 ghost use Rattle.fir_base.specs.Lists.{In};
 ghost use Rattle.ver_ast.specs.declared.tree.Item.{Item as Part};
-ghost use Rattle.ver_loop.specs.working.Loops.{IsClosedWalk, item_gives};
+ghost use Rattle.ver_loop.specs.Loops.{IsClosedWalk, item_gives};
 ghost use Rattle.ver_loop.specs.working.Rounds.{FindsGiver, IsFirstPlace, IsGivingPlace};
 
 use fir_base::{MemoryOut, Name};

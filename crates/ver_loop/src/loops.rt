@@ -3,10 +3,11 @@
 ghost use Rattle.std.specs.Prelude.{◌≡◌, [], IfOk};
 ghost use Rattle.fir_base.specs.Lists.{Distinct};
 ghost use Rattle.ver_ast.specs.Processes.{processes, process_targets};
-ghost use Rattle.ver_fault.specs.working.View.{vfault_of};
+ghost use Rattle.ver_fault.specs.View.{vfault_of};
 ghost use Rattle.ver_valid.specs.working.Circles.{IsCircle};
-ghost use Rattle.ver_check.specs.working.TreeFaults.{misfits, undriven};
-ghost use Rattle.ver_loop.specs.working.Loops.{LoopsChecked, ShowsLoop};
+ghost use Rattle.ver_check.specs.TreeFaults.{misfits, undriven};
+ghost use Rattle.ver_loop.specs.working.Loops.{LoopsChecked};
+ghost use Rattle.ver_loop.specs.Loops.{ShowsLoop};
 
 use crate::giver::first_place;
 use crate::walk::walk_of;

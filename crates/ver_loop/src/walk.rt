@@ -4,7 +4,7 @@ ghost use Rattle.std.specs.Prelude.{◌≡◌, ◌++◌, ◌∷◌, [], IfOk, On
 ghost use Rattle.fir_base.specs.Lists.{Distinct};
 ghost use Rattle.ver_ast.specs.Processes.{processes, process_targets};
 ghost use Rattle.ver_valid.specs.working.Circles.{IsCircle};
-ghost use Rattle.ver_loop.specs.working.Loops.{IsClosedWalk};
+ghost use Rattle.ver_loop.specs.Loops.{IsClosedWalk};
 ghost use Rattle.ver_loop.specs.working.Rounds.{named, round};
 
 use fir_base::{MemoryOut, Name, Seq};

@@ -5,7 +5,7 @@ use Rattle.ver_ast.specs.declared.place.VPlace.{VPlace}
 use Rattle.ver_ast.specs.declared.tree.Verilog.{Verilog}
 use Rattle.ver_ast.specs.Tokens.{VToken, sign}
 use Rattle.ver_ast.specs.Pieces.{PlacedToken}
-use Rattle.ver_fault.specs.working.Faults.{VFault}
+use Rattle.ver_fault.specs.Faults.{VFault}
 use Rattle.ver_lex.specs.declared.bad_byte.BadByte.{BadByte}
 use Rattle.ver_parse.specs.Fronts.{AreTokensOf, IsText, IsFront, StopsAt}
 use Rattle.ver_parse.specs.Depths.{opened_by, open_braces, IsShallow}

@@ -5,9 +5,9 @@ use Rattle.ver_ast.specs.declared.place.VPlace.{VPlace}
 use Rattle.ver_ast.specs.declared.tree.Verilog.{Verilog}
 use Rattle.ver_ast.specs.Pieces.{PlacedToken, place_after, HasTokens}
 use Rattle.ver_ast.specs.working.Laws.{TokensHaveOnePlace}
-use Rattle.ver_fault.specs.working.Faults.{VFault}
+use Rattle.ver_fault.specs.Faults.{VFault}
 use Rattle.ver_lex.specs.declared.bad_byte.BadByte.{BadByte}
-use Rattle.ver_lex.specs.working.Lexed.{StopsAt}
+use Rattle.ver_lex.specs.Lexed.{StopsAt}
 use Rattle.ver_lex.specs.working.Laws.{HasTokensOrStops, NeverBoth, StopsOnce}
 use Rattle.ver_parse.specs.Fronts.{AreTokensOf, IsText, IsFront}
 use Rattle.ver_parse.specs.Depths.{IsShallow}

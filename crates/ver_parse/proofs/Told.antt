@@ -4,14 +4,14 @@ use Rattle.fir_base.specs.declared.refused.Refused.{Refused}
 use Rattle.ver_ast.specs.declared.place.VPlace.{VPlace}
 use Rattle.ver_ast.specs.declared.tree.Verilog.{Verilog}
 use Rattle.ver_ast.specs.Pieces.{PlacedToken, place_after}
-use Rattle.ver_fault.specs.working.Faults.{VFault}
+use Rattle.ver_fault.specs.Faults.{VFault}
 use Rattle.ver_fault.specs.declared.fault.VerFault.{VerFault}
-use Rattle.ver_fault.specs.working.View.{vfault_of}
+use Rattle.ver_fault.specs.View.{vfault_of}
 use Rattle.ver_lex.specs.declared.bad_byte.BadByte.{BadByte}
 use Rattle.ver_lex.specs.working.Lexed.{Lexed}
 use Rattle.ver_parse.specs.declared.stop.Stop.{Stop}
 use Rattle.ver_parse.specs.declared.stop.Stop.TheVariants as stop
-use Rattle.ver_parse.specs.Parsed.{Parsed}
+use Rattle.ver_parse.specs.working.Parsed.{Parsed}
 use Rattle.ver_parse.specs.TextFaults.{TokensFault, IsTokenFault, ShowsUnexpected, syntax_fault}
 use Rattle.ver_parse.specs.working.Reading.{Outcome, unexpected, too_deep, ends, read_on, whole}
 use Rattle.ver_parse.specs.working.Reads.{IsStop}

@@ -1,5 +1,4 @@
 pub mod Fronts
 pub mod Depths
 pub mod TextFaults
-pub mod Parsed
 pub mod working

@@ -5,10 +5,10 @@ use Rattle.std.specs.Prelude.{◌≡◌, ◌⊎◌, ℕ, List, [], ◌∷◌, �
 use Rattle.ver_ast.specs.declared.place.VPlace.{VPlace}
 use Rattle.ver_ast.specs.Tokens.{sign}
 use Rattle.ver_ast.specs.Pieces.{PlacedToken, place_after, HasTokens}
-use Rattle.ver_fault.specs.working.Faults.{VFault, V01, V02, V07}
-use Rattle.ver_fault.specs.working.Texts.{byte_text}
+use Rattle.ver_fault.specs.Faults.{VFault, V01, V02, V07}
+use Rattle.ver_fault.specs.Texts.{byte_text}
 use Rattle.ver_lex.specs.declared.bad_byte.BadByte.{BadByte}
-use Rattle.ver_lex.specs.working.Lexed.{StopsAt as BytesStopAt}
+use Rattle.ver_lex.specs.Lexed.{StopsAt as BytesStopAt}
 use Rattle.ver_parse.specs.Fronts.{IsFront, StopsAt}
 use Rattle.ver_parse.specs.Depths.{open_braces, IsShallow}
 

@@ -1,6 +1,6 @@
 //! From tokens to the tree.
 
-ghost use Rattle.ver_parse.specs.Parsed.{Parsed};
+ghost use Rattle.ver_parse.specs.working.Parsed.{Parsed};
 ghost use Rattle.std.specs.Prelude.{◌≡◌};
 ghost use Rattle.ver_fault.specs.declared.fault.VerFault.TheVariants.{Byte};
 ghost use Rattle.ver_parse.specs.working.Whole.{end_fault, IsFaultOf, ReadsWhole};

@@ -7,8 +7,9 @@ use Rattle.ver_ast.specs.declared.tree.Item.{Item}
 use Rattle.ver_ast.specs.declared.tree.Verilog.{Verilog}
 use Rattle.ver_ast.specs.Tokens.{VToken, sign}
 use Rattle.ver_ast.specs.Grammar.{port_tokens, next_port_tokens, ports_tokens, item_tokens}
-use Rattle.ver_places.specs.working.Places.{place_at, places_in, behind, item_places}
-use Rattle.ver_places.specs.working.ItemPlaces.{item_place, starts_of}
+use Rattle.ver_places.specs.Places.{place_at, places_in, behind, item_places}
+use Rattle.ver_places.specs.working.ItemPlaces.{starts_of}
+use Rattle.ver_places.specs.ItemPlaces.{item_place}
 use Rattle.ver_places.proofs.PlacesBehind.{places_both}
 
 -- behind so many places and so many others

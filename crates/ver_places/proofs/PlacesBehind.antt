@@ -7,7 +7,7 @@ use Rattle.std.proofs.Math.Seq.{drop-nil}
 use Rattle.ver_ast.specs.declared.place.VPlace.{VPlace}
 use Rattle.ver_ast.specs.Tokens.{VToken}
 use Rattle.ver_ast.specs.Spells.{has_place}
-use Rattle.ver_places.specs.working.Places.{places_in, behind}
+use Rattle.ver_places.specs.Places.{places_in, behind}
 
 pub drop_twice : {T : Type 0} (m n : ℕ) (xs : List T) → drop n (drop m xs) ≡ drop (m + n) xs
 drop_twice zero n xs = let same : n ≡ 0 + n = omega arith in ap (λ (k : ℕ). drop k xs) same

@@ -7,7 +7,7 @@ use Rattle.ver_ast.specs.declared.tree.SignedOp.TheVariants as signed
 use Rattle.ver_ast.specs.Atoms.{AtomTree}
 use Rattle.ver_ast.specs.Tokens.{VToken, word, sign, signed_word}
 use Rattle.ver_ast.specs.Grammar.{atom_tokens, binary_token, signed_tokens, unsigned_op}
-use Rattle.ver_places.specs.working.Places.{behind, places_in}
+use Rattle.ver_places.specs.Places.{behind, places_in}
 use Rattle.ver_places.proofs.PlacesBehind.{behind_both, drop_one}
 
 -- an operator has no place

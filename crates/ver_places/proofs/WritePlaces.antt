@@ -5,7 +5,7 @@ use Rattle.ver_ast.specs.declared.place.VPlace.{VPlace}
 use Rattle.ver_ast.specs.declared.tree.Write.{Write}
 use Rattle.ver_ast.specs.Tokens.{VToken, word, sign, double}
 use Rattle.ver_ast.specs.Grammar.{atom_tokens, write_tokens}
-use Rattle.ver_places.specs.working.Places.{behind, places_in}
+use Rattle.ver_places.specs.Places.{behind, places_in}
 use Rattle.ver_places.proofs.PlacesBehind.{behind_both, drop_one, drop_two}
 
 -- the places behind a write, by those behind its parts

@@ -1,1 +1,3 @@
+pub mod ItemPlaces
+pub mod Places
 pub mod working

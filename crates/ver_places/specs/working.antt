@@ -1,3 +1,2 @@
--- What no clause of `run` reads: the places of the parts of a tree.
-pub mod Places
+-- What no clause of `run` reads: views of the code.
 pub mod ItemPlaces

@@ -1,5 +1,5 @@
 //! The places of the parts of a tree of the Verilog subset. In comes a tree with the places of its text, and out come the
-//! places behind its parts (`passed`), and those of its items (`starts`). What these are stands in specs/working/ (Places,
+//! places behind its parts (`passed`), and those of its items (`starts`). What these are stands in specs/ (Places,
 //! ItemPlaces).
 #![tactic(auto)]
 

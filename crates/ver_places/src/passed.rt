@@ -5,7 +5,7 @@ ghost use Rattle.std.specs.Prelude.{◌≡◌, drop, flat_map};
 ghost use Rattle.ver_ast.specs.declared.tree.Item.TheVariants as item_form;
 ghost use Rattle.ver_ast.specs.Atoms.{atoms_of};
 ghost use Rattle.ver_ast.specs.Grammar.{atom_tokens, item_tokens, next_atom_tokens, port_tokens, rhs_tokens, write_tokens};
-ghost use Rattle.ver_places.specs.working.Places.{behind, range_places};
+ghost use Rattle.ver_places.specs.Places.{behind, range_places};
 
 use crate::places::behind;
 use ver_ast::{Atom, AtomForm, Item, Port, Resetting, Rhs, VPlace, Write};

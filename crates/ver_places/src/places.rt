@@ -1,7 +1,7 @@
 //! Places one by one.
 
 ghost use Rattle.std.specs.Prelude.{◌≡◌, drop};
-ghost use Rattle.ver_places.specs.working.Places.{place_at};
+ghost use Rattle.ver_places.specs.Places.{place_at};
 
 use ver_ast::VPlace;
 

@@ -1,7 +1,8 @@
 //! The places of items.
 
 ghost use Rattle.std.specs.Prelude.{◌≡◌, ℕ, ◌<◌, IfOk, Some, length, slice_get};
-ghost use Rattle.ver_places.specs.working.ItemPlaces.{item_place, starts_of};
+ghost use Rattle.ver_places.specs.working.ItemPlaces.{starts_of};
+ghost use Rattle.ver_places.specs.ItemPlaces.{item_place};
 
 use crate::passed::{behind_item, behind_ports};
 use crate::places::{behind, place_at};

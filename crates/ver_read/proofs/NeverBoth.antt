@@ -4,12 +4,12 @@ use Rattle.ver_ast.specs.declared.tree.Verilog.{Verilog}
 use Rattle.ver_ast.specs.Processes.{Process}
 use Rattle.ver_ast.specs.Valid.{IsOrder}
 use Rattle.ver_ast.specs.working.Laws.{SpellsOneTree}
-use Rattle.ver_fault.specs.working.Faults.{VFault}
+use Rattle.ver_fault.specs.Faults.{VFault}
 use Rattle.ver_parse.specs.working.Laws.{NoTreeBesideAFault, SpellsTree}
 use Rattle.ver_check.specs.working.Laws.{FaultlessIsValid, ValidIsShallow}
-use Rattle.ver_check.specs.working.TreeFaults.{misfits, undriven}
+use Rattle.ver_check.specs.TreeFaults.{misfits, undriven}
 use Rattle.ver_loop.specs.working.Laws.{LoopsHaveNoOrder}
-use Rattle.ver_read.specs.working.Reads.{IsTextOf, IsTreeFault, IsFaultOf}
+use Rattle.ver_read.specs.Reads.{IsTextOf, IsTreeFault, IsFaultOf}
 use Rattle.ver_read.specs.working.Laws.{RefusedIsNotValid}
 use Rattle.ver_read.proofs.ShallowTexts.{tokens_are_shallow}
 

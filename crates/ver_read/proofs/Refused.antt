@@ -8,13 +8,14 @@ use Rattle.ver_ast.specs.Processes.{Process}
 use Rattle.ver_ast.specs.Spells.{VSpells}
 use Rattle.ver_ast.specs.Valid.{Valid, IsOrder}
 use Rattle.ver_fault.specs.declared.fault.VerFault.{VerFault}
-use Rattle.ver_fault.specs.working.Faults.{VFault}
-use Rattle.ver_fault.specs.working.View.{vfault_of}
+use Rattle.ver_fault.specs.Faults.{VFault}
+use Rattle.ver_fault.specs.View.{vfault_of}
 use Rattle.ver_lex.specs.working.Lexed.{Lexed, IsLexed}
-use Rattle.ver_parse.specs.Parsed.{IsTreeOf}
+use Rattle.ver_parse.specs.working.Parsed.{IsTreeOf}
 use Rattle.ver_check.specs.working.Laws.{FaultlessIsValid}
-use Rattle.ver_check.specs.working.TreeFaults.{misfits, undriven}
-use Rattle.ver_read.specs.working.Reads.{IsTextOf, HasTree, IsTreeFault, IsFaultOf, Reads, TreeChecked}
+use Rattle.ver_check.specs.TreeFaults.{misfits, undriven}
+use Rattle.ver_read.specs.Reads.{IsTextOf, HasTree, IsTreeFault, IsFaultOf, Reads}
+use Rattle.ver_read.specs.working.Checked.{TreeChecked}
 use Rattle.ver_read.proofs.ShallowTexts.{tree_is_shallow}
 
 of_text : (bytes : List ℕ) (t : Lexed) → IsLexed bytes t → t.stop ≡ None → HasTokens bytes t.tokens

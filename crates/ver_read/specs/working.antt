@@ -1,3 +1,3 @@
--- What no clause of `run` reads: which texts are taken and why others are refused, laws.
-pub mod Reads
+-- What no clause of `run` reads: laws.
+pub mod Checked
 pub mod Laws

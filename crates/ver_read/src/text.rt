@@ -1,7 +1,8 @@
 //! From the bytes of a text to its tree.
 
 ghost use Rattle.std.specs.Prelude.{◌≤◌, length};
-ghost use Rattle.ver_read.specs.working.Reads.{Reads, TreeChecked};
+ghost use Rattle.ver_read.specs.Reads.{Reads};
+ghost use Rattle.ver_read.specs.working.Checked.{TreeChecked};
 
 use fir_base::Refused;
 use std::alloc::Global;

@@ -26,7 +26,7 @@ use Rattle.ver_ast.specs.Next.{Put, write_put, is_within}
 use Rattle.ver_ast.specs.SideValues.{rhs_value}
 use Rattle.ver_ast.specs.SoundSides.{IsSoundSide}
 use Rattle.ver_ast.specs.Stores.{Store, store_of}
-use Rattle.ver_places.specs.working.ItemPlaces.{item_place}
+use Rattle.ver_places.specs.ItemPlaces.{item_place}
 use Rattle.ver_sim.specs.declared.blocks.WriteTask.{WriteTask}
 use Rattle.ver_sim.specs.declared.lacking.Check.{Check}
 use Rattle.ver_sim.specs.declared.lacking.Lack.{Lack}

@@ -18,7 +18,7 @@ use Rattle.ver_ast.specs.Settled.{SourcesShown, Rest}
 use Rattle.ver_ast.specs.Stores.{store_of}
 use Rattle.ver_ast.specs.Valid.{Valid}
 use Rattle.ver_ast.proofs.Processes.{by_kind}
-use Rattle.ver_places.specs.working.ItemPlaces.{item_place}
+use Rattle.ver_places.specs.ItemPlaces.{item_place}
 use Rattle.ver_sim.specs.declared.sim.NoValue.{NoValue}
 use Rattle.ver_sim.specs.working.NoValues.{LacksAtRest}
 use Rattle.ver_sim.specs.working.Lacking.{item_lacks, first_from}

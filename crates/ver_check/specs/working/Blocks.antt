@@ -1,6 +1,6 @@
 -- Beside what a block is judged.
 use Rattle.ver_check.specs.declared.block.Beside.{Beside}
-use Rattle.ver_check.specs.working.ItemFaults.{Before}
+use Rattle.ver_check.specs.ItemFaults.{Before}
 use Rattle.ver_check.specs.working.Known.{Knows, Drives}
 
 -- the code knows what is declared before, and what blocks write before

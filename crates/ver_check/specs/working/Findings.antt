@@ -3,9 +3,9 @@ use Rattle.std.specs.Prelude.{◌≡◌, ◌⊎◌, List, [], Option, Some, None
 use Rattle.fir_base.specs.declared.refused.Refused.{Refused}
 use Rattle.fir_base.specs.declared.refused.Refused.TheVariants.{Fault, Memory}
 use Rattle.ver_fault.specs.declared.fault.VerFault.{VerFault}
-use Rattle.ver_fault.specs.working.Faults.{VFault}
-use Rattle.ver_fault.specs.working.View.{vfault_of}
-use Rattle.ver_check.specs.working.TreeFaults.{BeginsWith}
+use Rattle.ver_fault.specs.Faults.{VFault}
+use Rattle.ver_fault.specs.View.{vfault_of}
+use Rattle.ver_check.specs.TreeFaults.{BeginsWith}
 
 -- none of none
 abbrev pub IsFirst : Option VerFault → List VFault → Type 0

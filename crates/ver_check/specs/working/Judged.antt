@@ -4,10 +4,10 @@ use Rattle.ver_ast.specs.declared.place.VPlace.{VPlace}
 use Rattle.ver_ast.specs.Atoms.{AtomTree, AtomTrees}
 use Rattle.ver_ast.specs.Grammar.{atom_tokens, next_atom_tokens}
 use Rattle.ver_fault.specs.declared.fault.VerFault.{VerFault}
-use Rattle.ver_fault.specs.working.Faults.{VFault}
-use Rattle.ver_check.specs.working.Scopes.{Scope, kind_bits, bits_of}
-use Rattle.ver_places.specs.working.Places.{behind}
-use Rattle.ver_check.specs.working.OperandFaults.{are_narrow, sum_of, atom_bits, atom_faults, joined_bits, joined_faults, net_faults, own_faults, whole_faults}
+use Rattle.ver_fault.specs.Faults.{VFault}
+use Rattle.ver_check.specs.Scopes.{Scope, kind_bits, bits_of}
+use Rattle.ver_places.specs.Places.{behind}
+use Rattle.ver_check.specs.OperandFaults.{are_narrow, sum_of, atom_bits, atom_faults, joined_bits, joined_faults, net_faults, own_faults, whole_faults}
 use Rattle.ver_check.specs.declared.operand.Judged.{Judged}
 use Rattle.ver_check.specs.working.Findings.{IsFirst}
 

@@ -8,8 +8,8 @@ use Rattle.ver_check.specs.declared.kind.Kind.TheVariants.{ClockInput, ClockOutp
 use Rattle.ver_check.specs.declared.scope.Entry.{Entry}
 use Rattle.ver_check.specs.declared.scope.Scope.{Scope as Names}
 use Rattle.ver_check.specs.declared.drivers.Drivers.{Drivers}
-use Rattle.ver_check.specs.working.Scopes.{Declaration, Scope, declaration_of}
-use Rattle.ver_check.specs.working.ItemFaults.{Driver, driver_of}
+use Rattle.ver_check.specs.Scopes.{Declaration, Scope, declaration_of}
+use Rattle.ver_check.specs.ItemFaults.{Driver, driver_of}
 
 -- at most 128 bits
 abbrev pub IsNarrowKind : Kind → Type 0

@@ -11,7 +11,7 @@ use Rattle.ver_ast.specs.Names.{rhs_atoms}
 use Rattle.ver_ast.specs.SoundSides.{atom_depth}
 use Rattle.ver_ast.specs.Valid.{IsOrder, Valid}
 use Rattle.ver_ast.specs.Processes.{Process}
-use Rattle.ver_check.specs.working.TreeFaults.{misfits, undriven}
+use Rattle.ver_check.specs.TreeFaults.{misfits, undriven}
 
 -- at most 256 braces are open
 abbrev pub IsShallowAtom : AtomTree → Type 0

@@ -7,9 +7,9 @@ use Rattle.ver_ast.specs.SoundSides.{OperandRule, arithmetic, shift, comparison}
 use Rattle.ver_check.specs.declared.side.Extent.{Extent}
 use Rattle.ver_check.specs.declared.side.Rule.{Rule}
 use Rattle.ver_check.specs.declared.side.Rule.TheVariants.{Arithmetic, Shift, Comparison}
-use Rattle.ver_check.specs.working.Scopes.{Scope}
-use Rattle.ver_places.specs.working.Places.{behind}
-use Rattle.ver_check.specs.working.OperandFaults.{atom_bits}
+use Rattle.ver_check.specs.Scopes.{Scope}
+use Rattle.ver_places.specs.Places.{behind}
+use Rattle.ver_check.specs.OperandFaults.{atom_bits}
 
 -- how many bits it has, and the places behind its own
 pub record HasExtent (scope : Scope) (a : AtomTree) (ps : List VPlace) (e : Extent) : Type 0 where

@@ -3,12 +3,12 @@ use Rattle.std.specs.Prelude.{◌≡◌, List, [], ◌∷◌, map, flat_map, Res
 use Rattle.fir_base.specs.Words.{is_among}
 use Rattle.fir_base.specs.declared.refused.Refused.{Refused}
 use Rattle.ver_fault.specs.declared.fault.VerFault.{VerFault}
-use Rattle.ver_fault.specs.working.Faults.{VFault}
+use Rattle.ver_fault.specs.Faults.{VFault}
 use Rattle.ver_check.specs.declared.walk.Walk.{Walk}
 use Rattle.ver_check.specs.declared.walk.Due.{Due}
-use Rattle.ver_check.specs.working.FaultForms.{undriven_fault}
-use Rattle.ver_check.specs.working.Scopes.{Declaration, is_driven}
-use Rattle.ver_check.specs.working.ItemFaults.{Before, Driver}
+use Rattle.ver_check.specs.FaultForms.{undriven_fault}
+use Rattle.ver_check.specs.Scopes.{Declaration, is_driven}
+use Rattle.ver_check.specs.ItemFaults.{Before, Driver}
 use Rattle.ver_check.specs.working.Findings.{IsRefusedFor}
 use Rattle.ver_check.specs.working.Known.{Knows, Drives}
 

@@ -2,7 +2,7 @@
 use Rattle.std.specs.Prelude.{◌≡◌, ◌⊎◌, ℕ, List}
 use Rattle.ver_ast.specs.Pieces.{PlacedToken, HasTokens}
 use Rattle.ver_lex.specs.declared.bad_byte.BadByte.{BadByte}
-use Rattle.ver_lex.specs.working.Lexed.{StopsAt}
+use Rattle.ver_lex.specs.Lexed.{StopsAt}
 
 -- a text has tokens, or it stops
 abbrev pub HasTokensOrStops : Type 0

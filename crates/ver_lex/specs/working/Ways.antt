@@ -3,7 +3,7 @@ use Rattle.std.specs.Prelude.{◌≡◌, ℕ, ◌+◌, ◌<◌, List, [], map, t
 use Rattle.ver_ast.specs.Pieces.{VPiece, bytes_of_piece, PlacedToken, place_after, tokens_of_pieces}
 use Rattle.ver_lex.specs.declared.draft.Draft.{Draft}
 use Rattle.ver_lex.specs.declared.lexer.Lexer.{Lexer}
-use Rattle.ver_lex.specs.working.Lexed.{AreVPiecesBefore, BeginsNoPiece}
+use Rattle.ver_lex.specs.Lexed.{AreVPiecesBefore, BeginsNoPiece}
 use Rattle.ver_lex.specs.working.Bytes.{place_behind}
 use Rattle.ver_lex.specs.working.View.{spelled}
 

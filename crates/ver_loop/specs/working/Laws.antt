@@ -3,9 +3,9 @@ use Rattle.std.specs.Prelude.{◌≡◌, List, []}
 use Rattle.ver_ast.specs.declared.tree.Verilog.{Verilog}
 use Rattle.ver_ast.specs.Processes.{Process}
 use Rattle.ver_ast.specs.Valid.{IsOrder}
-use Rattle.ver_fault.specs.working.Faults.{VFault}
-use Rattle.ver_check.specs.working.TreeFaults.{misfits, undriven}
-use Rattle.ver_loop.specs.working.Loops.{ShowsLoop}
+use Rattle.ver_fault.specs.Faults.{VFault}
+use Rattle.ver_check.specs.TreeFaults.{misfits, undriven}
+use Rattle.ver_loop.specs.Loops.{ShowsLoop}
 
 -- a tree without another fault that has a closed walk has no order of its processes
 abbrev pub LoopsHaveNoOrder : Type 0

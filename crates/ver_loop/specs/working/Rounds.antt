@@ -5,8 +5,8 @@ use Rattle.fir_base.specs.Lists.{In}
 use Rattle.ver_ast.specs.declared.place.VPlace.{VPlace}
 use Rattle.ver_ast.specs.declared.tree.Verilog.{Verilog}
 use Rattle.ver_ast.specs.declared.tree.Item.{Item}
-use Rattle.ver_places.specs.working.ItemPlaces.{item_place}
-use Rattle.ver_loop.specs.working.Loops.{IsClosedWalk, item_gives}
+use Rattle.ver_places.specs.ItemPlaces.{item_place}
+use Rattle.ver_loop.specs.Loops.{IsClosedWalk, item_gives}
 
 -- the names of these numbers
 abbrev pub named : List (List ℕ) → List ℕ → List (List ℕ)

@@ -3,7 +3,7 @@ use Rattle.std.specs.Prelude.{◌≡◌, ◌⊎◌, ℕ, List, Option, None}
 use Rattle.ver_ast.specs.declared.place.VPlace.{VPlace}
 use Rattle.ver_ast.specs.declared.tree.Verilog.{Verilog}
 use Rattle.ver_ast.specs.Pieces.{PlacedToken, HasTokens}
-use Rattle.ver_fault.specs.working.Faults.{VFault}
+use Rattle.ver_fault.specs.Faults.{VFault}
 use Rattle.ver_lex.specs.declared.bad_byte.BadByte.{BadByte}
 use Rattle.ver_parse.specs.Fronts.{AreTokensOf}
 use Rattle.ver_parse.specs.Depths.{IsShallow}

@@ -7,7 +7,7 @@ use Rattle.ver_ast.specs.declared.tree.Verilog.{Verilog}
 use Rattle.ver_ast.specs.declared.tree.Item.{Item}
 use Rattle.ver_ast.specs.Nets.{variables, shape}
 use Rattle.ver_ast.specs.Stores.{store_of}
-use Rattle.ver_places.specs.working.ItemPlaces.{item_place}
+use Rattle.ver_places.specs.ItemPlaces.{item_place}
 use Rattle.ver_order.specs.working.Laws.{FitNets}
 use Rattle.ver_sim.specs.declared.lacking.Check.{Check}
 use Rattle.ver_sim.specs.working.Valued.{env_of}

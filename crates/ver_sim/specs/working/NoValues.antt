@@ -5,7 +5,7 @@ use Rattle.ver_ast.specs.declared.tree.Verilog.{Verilog}
 use Rattle.ver_ast.specs.Nets.{variables}
 use Rattle.ver_ast.specs.Settled.{Rest}
 use Rattle.ver_ast.specs.Stores.{store_of}
-use Rattle.ver_places.specs.working.ItemPlaces.{item_place}
+use Rattle.ver_places.specs.ItemPlaces.{item_place}
 use Rattle.ver_sim.specs.declared.sim.NoValue.{NoValue}
 use Rattle.ver_sim.specs.working.Lacking.{item_lacks, first_from}
 

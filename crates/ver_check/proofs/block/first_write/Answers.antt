@@ -1,7 +1,7 @@
 use Rattle.std.proofs.Common.{List, ◌∙◌, ap, drop, arith}
 use Rattle.ver_ast.specs.declared.place.VPlace.{VPlace}
 use Rattle.ver_ast.specs.Grammar.{atom_tokens}
-use Rattle.ver_places.specs.working.Places.{behind}
+use Rattle.ver_places.specs.Places.{behind}
 use Rattle.ver_places.proofs.WritePlaces.{behind_write}
 use Rattle.ver_check.proofs.block.first_write.Goals as goal
 

@@ -1,6 +1,6 @@
 use Rattle.std.proofs.Common.{Bool, ap, subst}
 use Rattle.std.specs.Prelude.{Some}
-use Rattle.ver_check.specs.working.OperandFaults.{own_faults}
+use Rattle.ver_check.specs.OperandFaults.{own_faults}
 use Rattle.ver_check.specs.working.Findings.{IsFirst}
 use Rattle.ver_check.proofs.block.fitting.Goals as goal
 

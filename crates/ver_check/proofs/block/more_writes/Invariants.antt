@@ -1,7 +1,7 @@
 use Rattle.std.proofs.Common.{◌≡◌, ◌≤◌, drop}
 use Rattle.std.specs.Prelude.{Some}
-use Rattle.ver_check.specs.working.Scopes.{bits_of, word_bits}
-use Rattle.ver_check.specs.working.ItemFaults.{Before, more_writes_faults}
+use Rattle.ver_check.specs.Scopes.{bits_of, word_bits}
+use Rattle.ver_check.specs.ItemFaults.{Before, more_writes_faults}
 use Rattle.ver_check.specs.working.Blocks.{HasScope}
 use Rattle.ver_check.proofs.block.more_writes.Given as goal
 

@@ -2,8 +2,8 @@ use Rattle.std.proofs.Common.{List, ℕ, ◌∙◌, ap, subst, drop, arith}
 use Rattle.std.specs.Prelude.{◌≡◌, Some}
 use Rattle.ver_ast.specs.declared.place.VPlace.{VPlace}
 use Rattle.ver_ast.specs.Grammar.{atom_tokens}
-use Rattle.ver_check.specs.working.Scopes.{bits_of, word_bits}
-use Rattle.ver_places.specs.working.Places.{behind}
+use Rattle.ver_check.specs.Scopes.{bits_of, word_bits}
+use Rattle.ver_places.specs.Places.{behind}
 use Rattle.ver_check.proofs.Blocks.{again_same}
 use Rattle.ver_places.proofs.WritePlaces.{behind_write}
 use Rattle.ver_check.proofs.block.next_write.Goals as goal

@@ -1,8 +1,8 @@
 use Rattle.std.proofs.Common.{◌∙◌, sym}
 use Rattle.std.specs.Prelude.{Some, None}
-use Rattle.ver_fault.specs.working.View.{vfault_of}
-use Rattle.ver_check.specs.working.Scopes.{kind_of, register_bits}
-use Rattle.ver_check.specs.working.ItemFaults.{driven_faults, driver_of}
+use Rattle.ver_fault.specs.View.{vfault_of}
+use Rattle.ver_check.specs.Scopes.{kind_of, register_bits}
+use Rattle.ver_check.specs.ItemFaults.{driven_faults, driver_of}
 use Rattle.ver_check.proofs.Blocks.{known_kind, unknown_begins, lacking_begins}
 use Rattle.ver_check.proofs.block.register.Goals as goal
 

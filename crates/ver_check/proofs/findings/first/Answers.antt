@@ -2,7 +2,7 @@ use Rattle.std.proofs.Common.{subst}
 use Rattle.std.specs.Prelude.{Option}
 use Rattle.ver_fault.specs.declared.fault.VerFault.{VerFault}
 use Rattle.ver_check.specs.working.Findings.{IsFirst}
-use Rattle.ver_fault.specs.working.View.{vfault_of}
+use Rattle.ver_fault.specs.View.{vfault_of}
 use Rattle.ver_check.proofs.Firsts.{begins_more}
 use Rattle.ver_check.proofs.findings.first.Goals as goal
 

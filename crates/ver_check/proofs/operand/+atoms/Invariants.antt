@@ -1,7 +1,7 @@
 use Rattle.std.proofs.Common.{◌+◌, ◌*◌, drop}
 use Rattle.ver_ast.specs.Atoms.{atoms_of}
 use Rattle.ver_ast.specs.working.AtomSizes.{atom_size, atoms_size}
-use Rattle.ver_check.specs.working.Scopes.{Scope as Declarations}
+use Rattle.ver_check.specs.Scopes.{Scope as Declarations}
 use Rattle.ver_check.specs.working.Known.{Knows}
 use Rattle.ver_check.specs.working.Judged.{IsAmid}
 use Rattle.ver_check.proofs.operand.+atoms.Given as goal

@@ -1,4 +1,4 @@
-use Rattle.ver_check.specs.working.OperandFaults.{atom_bits, atom_faults}
+use Rattle.ver_check.specs.OperandFaults.{atom_bits, atom_faults}
 use Rattle.ver_check.proofs.Faultless.{faultless_most}
 use Rattle.ver_check.proofs.side.operand.Goals as goal
 

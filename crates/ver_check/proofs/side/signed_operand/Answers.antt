@@ -1,8 +1,8 @@
 use Rattle.std.proofs.Common.{◌∙◌, ap}
 use Rattle.std.specs.Prelude.{None}
 use Rattle.ver_ast.specs.Grammar.{atom_tokens}
-use Rattle.ver_places.specs.working.Places.{behind}
-use Rattle.ver_check.specs.working.OperandFaults.{atom_bits, atom_faults}
+use Rattle.ver_places.specs.Places.{behind}
+use Rattle.ver_check.specs.OperandFaults.{atom_bits, atom_faults}
 use Rattle.ver_check.proofs.Faultless.{faultless_most}
 use Rattle.ver_check.proofs.side.signed_operand.Goals as goal
 

@@ -1,6 +1,6 @@
 use Rattle.std.proofs.Common.{◌∙◌, sym, ap}
 use Rattle.std.proofs.Common.{[], ◌∷◌}
-use Rattle.ver_check.specs.working.FaultForms.{undriven_fault}
+use Rattle.ver_check.specs.FaultForms.{undriven_fault}
 use Rattle.ver_check.specs.working.Walks.{due_in}
 use Rattle.ver_check.proofs.Undriven.{none_missing, one_missing}
 use Rattle.ver_check.proofs.walk.is_driven.Goals as goal

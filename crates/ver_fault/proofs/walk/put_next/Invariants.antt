@@ -1,5 +1,5 @@
 use Rattle.std.proofs.Common.{◌≡◌, ◌++◌, flat_map, take}
-use Rattle.ver_fault.specs.working.Texts.{next_text}
+use Rattle.ver_fault.specs.Texts.{next_text}
 use Rattle.ver_fault.proofs.walk.put_next.Given as goal
 
 abbrev pub invariant-loop-name : goal.invariant-loop-name

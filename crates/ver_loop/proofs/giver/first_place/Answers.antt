@@ -2,7 +2,7 @@ use Rattle.std.proofs.Common.{◌≡◌, ℕ, List, sym, ap, ◌∙◌, subst}
 use Rattle.std.specs.Prelude.{slice_get}
 use Rattle.std.proofs.lemmas.Option.{same_Some}
 use Rattle.fir_base.specs.Lists.{In}
-use Rattle.ver_loop.specs.working.Loops.{item_gives}
+use Rattle.ver_loop.specs.Loops.{item_gives}
 use Rattle.ver_loop.proofs.Givers.{first_given}
 use Rattle.ver_loop.proofs.giver.first_place.Goals as goal
 

@@ -4,7 +4,7 @@ use Rattle.std.proofs.lemmas.List.{take_all}
 use Rattle.fir_base.specs.Lists.{In}
 use Rattle.fir_base.proofs.Each.{all_at}
 use Rattle.ver_ast.specs.declared.tree.Item.{Item}
-use Rattle.ver_loop.specs.working.Loops.{item_gives}
+use Rattle.ver_loop.specs.Loops.{item_gives}
 use Rattle.ver_loop.proofs.giver.giving_item.Goals as goal
 
 pub returns : goal.returns

@@ -1,8 +1,8 @@
 use Rattle.std.proofs.Common.{ℕ, List, ◌++◌, ap, subst}
 use Rattle.std.specs.Prelude.{codes}
 use Rattle.ver_ast.specs.declared.place.VPlace.{VPlace}
-use Rattle.ver_fault.specs.working.Faults.{VFault, V06}
-use Rattle.ver_fault.specs.working.Texts.{walk_text}
+use Rattle.ver_fault.specs.Faults.{VFault, V06}
+use Rattle.ver_fault.specs.Texts.{walk_text}
 use Rattle.ver_loop.specs.working.Rounds.{IsFirstPlace}
 use Rattle.ver_loop.proofs.loops.loop_fault.Goals as goal
 

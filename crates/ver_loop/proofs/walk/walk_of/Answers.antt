@@ -1,6 +1,6 @@
 use Rattle.std.proofs.Common.{ℕ, List, map, sym, ap, ◌∙◌, subst, Bor}
 use Rattle.fir_base.specs.declared.name.Name.{Name}
-use Rattle.ver_loop.specs.working.Loops.{IsClosedWalk}
+use Rattle.ver_loop.specs.Loops.{IsClosedWalk}
 use Rattle.ver_loop.specs.working.Rounds.{round}
 use Rattle.ver_loop.proofs.ClosedWalks.{closed_walk}
 use Rattle.ver_loop.proofs.walk.walk_of.Goals as goal

@@ -1,7 +1,7 @@
 use Rattle.std.proofs.Common.{[], sym, ap, ◌∙◌, inr, subst}
 use Rattle.std.proofs.lemmas.List.{append-nil}
 use Rattle.ver_ast.specs.Pieces.{place_after}
-use Rattle.ver_fault.specs.working.View.{vfault_of}
+use Rattle.ver_fault.specs.View.{vfault_of}
 use Rattle.ver_parse.specs.Fronts.{IsText}
 use Rattle.ver_parse.specs.TextFaults.{TokensFault}
 use Rattle.ver_parse.specs.working.Reading.{whole}

@@ -2,7 +2,7 @@ use Rattle.std.proofs.Common.{◌≡◌, ◌+◌, ◌*◌, drop}
 use Rattle.ver_ast.specs.Atoms.{atoms_of}
 use Rattle.ver_ast.specs.Grammar.{next_atom_tokens}
 use Rattle.ver_ast.specs.working.AtomSizes.{atom_size, atoms_size}
-use Rattle.ver_places.specs.working.Places.{behind}
+use Rattle.ver_places.specs.Places.{behind}
 use Rattle.ver_places.proofs.passed.+atoms.Given as goal
 
 -- an operand of a list is no larger than the list, so the list counts for one more

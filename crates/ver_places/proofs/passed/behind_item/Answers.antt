@@ -3,7 +3,7 @@ use Rattle.std.specs.Prelude.{flat_map}
 use Rattle.ver_ast.specs.declared.tree.Item.{Item}
 use Rattle.ver_ast.specs.declared.tree.Write.{Write}
 use Rattle.ver_ast.specs.Grammar.{item_tokens, write_tokens}
-use Rattle.ver_places.specs.working.Places.{behind}
+use Rattle.ver_places.specs.Places.{behind}
 use Rattle.ver_places.proofs.SidePlaces.{writes_behind}
 use Rattle.ver_places.proofs.passed.behind_item.Goals as goal
 

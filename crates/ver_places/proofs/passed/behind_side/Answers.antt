@@ -1,7 +1,7 @@
 use Rattle.std.proofs.Common.{◌∙◌, ap, drop, sym}
 use Rattle.ver_ast.specs.declared.tree.Rhs.{Rhs}
 use Rattle.ver_ast.specs.Grammar.{atom_tokens, rhs_tokens}
-use Rattle.ver_places.specs.working.Places.{behind}
+use Rattle.ver_places.specs.Places.{behind}
 use Rattle.ver_places.proofs.SidePlaces.{two_signed}
 use Rattle.ver_places.proofs.passed.behind_side.Goals as goal
 

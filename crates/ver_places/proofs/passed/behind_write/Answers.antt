@@ -1,6 +1,6 @@
 use Rattle.std.proofs.Common.{◌∙◌, ap, drop}
 use Rattle.ver_ast.specs.Grammar.{atom_tokens}
-use Rattle.ver_places.specs.working.Places.{behind}
+use Rattle.ver_places.specs.Places.{behind}
 use Rattle.ver_places.proofs.WritePlaces.{behind_write}
 use Rattle.ver_places.proofs.passed.behind_write.Goals as goal
 

@@ -4,7 +4,7 @@ use Rattle.ver_ast.specs.declared.place.VPlace.{VPlace}
 use Rattle.ver_ast.specs.declared.tree.Item.{Item}
 use Rattle.ver_ast.specs.declared.tree.Port.{Port}
 use Rattle.ver_ast.specs.Grammar.{port_tokens}
-use Rattle.ver_places.specs.working.Places.{behind, item_places}
+use Rattle.ver_places.specs.Places.{behind, item_places}
 use Rattle.ver_places.specs.working.ItemPlaces.{starts_of}
 use Rattle.ver_places.proofs.ItemStarts.{item_starts_at, starts_long}
 use Rattle.ver_places.proofs.starts.item_starts.Goals as goal

@@ -2,7 +2,7 @@ use Rattle.std.proofs.Common.{◌≡◌, ◌<◌, ◌≤◌, List, length, get_o
 use Rattle.std.specs.Prelude.{Some, slice_get}
 use Rattle.ver_ast.specs.declared.place.VPlace.{VPlace}
 use Rattle.ver_ast.specs.declared.tree.Item.{Item}
-use Rattle.ver_places.specs.working.ItemPlaces.{item_place}
+use Rattle.ver_places.specs.ItemPlaces.{item_place}
 use Rattle.ver_sim.specs.working.Checks.{AreChecks}
 use Rattle.ver_sim.proofs.LackingItems.{no_checks, checks_more}
 use Rattle.ver_sim.proofs.PairLists.{in_at, take_whole}

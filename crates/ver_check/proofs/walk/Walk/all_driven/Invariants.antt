@@ -1,7 +1,7 @@
 use Rattle.std.proofs.Common.{◌≡◌, drop, map}
 use Rattle.std.specs.Prelude.{flat_map}
-use Rattle.ver_check.specs.working.ItemFaults.{Before}
-use Rattle.ver_check.specs.working.TreeFaults.{undriven_of}
+use Rattle.ver_check.specs.ItemFaults.{Before}
+use Rattle.ver_check.specs.TreeFaults.{undriven_of}
 use Rattle.ver_check.specs.working.Walks.{Stands, due_in, missing_faults}
 use Rattle.ver_check.proofs.walk.Walk.all_driven.Given as goal
 

@@ -1,7 +1,7 @@
 use Rattle.std.proofs.Common.{◌∙◌, sym, ap, subst, []}
-use Rattle.ver_check.specs.working.ItemFaults.{Before}
-use Rattle.ver_places.specs.working.Places.{place_at}
-use Rattle.ver_check.specs.working.TreeFaults.{with_written}
+use Rattle.ver_check.specs.ItemFaults.{Before}
+use Rattle.ver_places.specs.Places.{place_at}
+use Rattle.ver_check.specs.TreeFaults.{with_written}
 use Rattle.ver_check.specs.working.Walks.{Stands, Steps}
 use Rattle.ver_check.proofs.Undriven.{noted}
 use Rattle.ver_check.proofs.walk.Walk.note_writes.Goals as goal

@@ -2,9 +2,9 @@ use Rattle.std.proofs.Common.{List, sym, subst, []}
 use Rattle.ver_ast.specs.declared.place.VPlace.{VPlace}
 use Rattle.ver_ast.specs.declared.tree.Item.{Item}
 use Rattle.ver_ast.specs.declared.tree.Item.TheVariants as item
-use Rattle.ver_fault.specs.working.Faults.{VFault}
-use Rattle.ver_check.specs.working.ItemFaults.{item_faults}
-use Rattle.ver_check.specs.working.TreeFaults.{behind_item, with_written}
+use Rattle.ver_fault.specs.Faults.{VFault}
+use Rattle.ver_check.specs.ItemFaults.{item_faults}
+use Rattle.ver_check.specs.TreeFaults.{behind_item, with_written}
 use Rattle.ver_check.specs.working.Walks.{Stands, Steps}
 use Rattle.ver_check.proofs.Undriven.{reset_free}
 use Rattle.ver_check.proofs.walk.Walk.take_item.Goals as goal

@@ -1,6 +1,6 @@
 use Rattle.std.proofs.Common.{◌≡◌, drop}
-use Rattle.ver_check.specs.working.ItemFaults.{Before}
-use Rattle.ver_check.specs.working.TreeFaults.{behind_items, items_faults}
+use Rattle.ver_check.specs.ItemFaults.{Before}
+use Rattle.ver_check.specs.TreeFaults.{behind_items, items_faults}
 use Rattle.ver_check.specs.working.Walks.{Stands}
 use Rattle.ver_check.proofs.walk.Walk.take_items.Given as goal
 

@@ -5,16 +5,15 @@ use Rattle.std.specs.Prelude.{◌≡◌, ◌⊎◌, ℕ, List, [], Result, Ok, E
 use Rattle.fir_base.specs.declared.refused.Refused.{Refused}
 use Rattle.fir_base.specs.declared.refused.Refused.TheVariants.{Fault, Memory}
 use Rattle.ver_ast.specs.declared.tree.Verilog.{Verilog}
-use Rattle.ver_ast.specs.Processes.{Process}
 use Rattle.ver_ast.specs.Spells.{VSpells}
-use Rattle.ver_ast.specs.Valid.{Valid, IsOrder}
+use Rattle.ver_ast.specs.Valid.{Valid}
 use Rattle.ver_fault.specs.declared.fault.VerFault.{VerFault}
-use Rattle.ver_fault.specs.working.Faults.{VFault}
-use Rattle.ver_fault.specs.working.View.{vfault_of}
+use Rattle.ver_fault.specs.Faults.{VFault}
+use Rattle.ver_fault.specs.View.{vfault_of}
 use Rattle.ver_parse.specs.Depths.{IsShallow}
 use Rattle.ver_parse.specs.TextFaults.{TextFault}
-use Rattle.ver_check.specs.working.TreeFaults.{misfits, undriven, BeginsWith}
-use Rattle.ver_loop.specs.working.Loops.{ShowsLoop}
+use Rattle.ver_check.specs.TreeFaults.{misfits, undriven, BeginsWith}
+use Rattle.ver_loop.specs.Loops.{ShowsLoop}
 
 -- a text that is taken
 pub record IsTextOf (bytes : List ℕ) (v : Verilog) : Type 0 where
@@ -41,9 +40,3 @@ abbrev pub Reads : List ℕ → Result Verilog (Refused VerFault) → Type 0
 Reads bytes (Ok v) = IsTextOf bytes v
 Reads bytes (Err (Fault f)) = IsFaultOf bytes (vfault_of f)
 Reads bytes (Err Memory) = Unit {0}
-
--- a tree without a fault, and an order of its processes; or its first fault
-abbrev pub TreeChecked : Verilog → Result Unit (Refused VerFault) → Type 0
-TreeChecked v (Ok x) = (misfits v ≡ []) × (undriven v ≡ []) × ((order : List Process) × IsOrder v order)
-TreeChecked v (Err (Fault f)) = IsTreeFault v (vfault_of f)
-TreeChecked v (Err Memory) = Unit {0}

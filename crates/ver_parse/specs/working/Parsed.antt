@@ -6,7 +6,7 @@ use Rattle.ver_ast.specs.declared.tree.Verilog.{Verilog}
 use Rattle.ver_ast.specs.Pieces.{place_after}
 use Rattle.ver_ast.specs.Spells.{places_of}
 use Rattle.ver_fault.specs.declared.fault.VerFault.{VerFault}
-use Rattle.ver_fault.specs.working.View.{vfault_of}
+use Rattle.ver_fault.specs.View.{vfault_of}
 use Rattle.ver_lex.specs.working.Lexed.{Lexed}
 use Rattle.ver_parse.specs.Fronts.{AreTokensOf}
 use Rattle.ver_parse.specs.Depths.{IsShallow}

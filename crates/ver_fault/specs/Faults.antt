@@ -1,7 +1,7 @@
 -- A fault of a Verilog text: its code, its place, and what its line says behind the place; and that line.
 use Rattle.std.specs.Prelude.{ℕ, List, ◌++◌, codes}
 use Rattle.ver_ast.specs.declared.place.VPlace.{VPlace}
-use Rattle.ver_fault.specs.working.Texts.{vplace_text}
+use Rattle.ver_fault.specs.Texts.{vplace_text}
 
 pub data VCode : Type 0 where
   V01 V02 V03 V04 V05 V06 V07 V08 : VCode

@@ -3,8 +3,8 @@ use Rattle.std.specs.Prelude.{ℕ, List, ◌++◌, codes, decimal}
 use Rattle.ver_ast.specs.declared.place.VPlace.{VPlace}
 use Rattle.ver_fault.specs.declared.fault.VerFault.{VerFault}
 use Rattle.ver_fault.specs.declared.fault.VerFault.TheVariants as fault
-use Rattle.ver_fault.specs.working.Faults.{VCode, V01, V02, V03, V04, V05, V06, V07, V08, VFault}
-use Rattle.ver_fault.specs.working.Texts.{vplace_text, byte_text, walk_text}
+use Rattle.ver_fault.specs.Faults.{VCode, V01, V02, V03, V04, V05, V06, V07, V08, VFault}
+use Rattle.ver_fault.specs.Texts.{vplace_text, byte_text, walk_text}
 
 abbrev pub vcode_of : VerFault → VCode
 vcode_of (fault.Byte p b) = V01

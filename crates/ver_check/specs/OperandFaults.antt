@@ -6,11 +6,11 @@ use Rattle.std.specs.Prelude.{ℕ, ◌+◌, ◌-◌, ◌*◌, ◌^◌, List, [],
 use Rattle.ver_ast.specs.declared.place.VPlace.{VPlace}
 use Rattle.ver_ast.specs.Atoms.{AtomTree, net, constant, bit_select, part_select, concat, repeat, AtomTrees, no_atoms, atom_before}
 use Rattle.ver_ast.specs.Grammar.{atom_tokens}
-use Rattle.ver_places.specs.working.Places.{place_at, behind}
-use Rattle.ver_fault.specs.working.Faults.{VFault}
-use Rattle.ver_check.specs.working.FaultForms.{undeclared_fault, width_fault, kind_fault}
+use Rattle.ver_places.specs.Places.{place_at, behind}
+use Rattle.ver_fault.specs.Faults.{VFault}
+use Rattle.ver_check.specs.FaultForms.{undeclared_fault, width_fault, kind_fault}
 use Rattle.ver_check.specs.declared.kind.Kind.{Kind}
-use Rattle.ver_check.specs.working.Scopes.{Scope, kind_of, kind_bits, bits_of}
+use Rattle.ver_check.specs.Scopes.{Scope, kind_of, kind_bits, bits_of}
 
 -- what is looked for is not there
 abbrev pub lacking_faults : VPlace → Option ℕ → List VFault

@@ -14,14 +14,14 @@ use Rattle.ver_ast.specs.declared.tree.Item.{Item}
 use Rattle.ver_ast.specs.declared.tree.Item.TheVariants as item
 use Rattle.ver_ast.specs.AtomForms.{constant_number}
 use Rattle.ver_ast.specs.Grammar.{atom_tokens, write_tokens}
-use Rattle.ver_fault.specs.working.Faults.{VFault}
-use Rattle.ver_check.specs.working.FaultForms.{undeclared_fault, kind_fault, twice_fault}
-use Rattle.ver_check.specs.working.Scopes.{Declaration, Scope, declaration_of, kind_of, kind_bits, register_bits, word_bits, bits_of}
+use Rattle.ver_fault.specs.Faults.{VFault}
+use Rattle.ver_check.specs.FaultForms.{undeclared_fault, kind_fault, twice_fault}
+use Rattle.ver_check.specs.Scopes.{Declaration, Scope, declaration_of, kind_of, kind_bits, register_bits, word_bits, bits_of}
 use Rattle.ver_check.specs.declared.kind.Kind.{Kind}
 use Rattle.ver_check.specs.declared.kind.Kind.TheVariants as kind
-use Rattle.ver_places.specs.working.Places.{place_at, range_places, behind}
-use Rattle.ver_check.specs.working.OperandFaults.{name_faults, is_narrow, is_constant_fit, width_faults, own_faults, atom_faults}
-use Rattle.ver_check.specs.working.SideFaults.{side_faults, truth_faults, clock_faults, clock_side_faults, misplaced_faults}
+use Rattle.ver_places.specs.Places.{place_at, range_places, behind}
+use Rattle.ver_check.specs.OperandFaults.{name_faults, is_narrow, is_constant_fit, width_faults, own_faults, atom_faults}
+use Rattle.ver_check.specs.SideFaults.{side_faults, truth_faults, clock_faults, clock_side_faults, misplaced_faults}
 
 -- a name that has a driver, and where it stands in the first one
 pub record Driver : Type 0 where

@@ -1,8 +1,8 @@
 -- The faults of a tree: their codes, places and evidence.
 use Rattle.std.specs.Prelude.{ℕ, List, ◌++◌, codes, decimal}
 use Rattle.ver_ast.specs.declared.place.VPlace.{VPlace}
-use Rattle.ver_fault.specs.working.Texts.{vplace_text}
-use Rattle.ver_fault.specs.working.Faults.{VFault, V03, V04, V05, V08}
+use Rattle.ver_fault.specs.Texts.{vplace_text}
+use Rattle.ver_fault.specs.Faults.{VFault, V03, V04, V05, V08}
 
 -- a name that is not declared before it is used
 abbrev pub undeclared_fault : VPlace → List ℕ → VFault

@@ -10,15 +10,15 @@ use Rattle.ver_ast.specs.declared.tree.Edge.{Edge}
 use Rattle.ver_ast.specs.declared.tree.Item.{Item}
 use Rattle.ver_ast.specs.declared.tree.Item.TheVariants as item
 use Rattle.ver_ast.specs.Grammar.{port_tokens, item_tokens}
-use Rattle.ver_fault.specs.working.Faults.{VFault}
-use Rattle.ver_check.specs.working.FaultForms.{undriven_fault}
+use Rattle.ver_fault.specs.Faults.{VFault}
+use Rattle.ver_check.specs.FaultForms.{undriven_fault}
 use Rattle.fir_base.specs.declared.direction.Direction.{Direction}
 use Rattle.fir_base.specs.declared.direction.Direction.TheVariants.{Input, Output}
 use Rattle.ver_check.specs.declared.kind.Kind.{Kind}
 use Rattle.ver_check.specs.declared.kind.Kind.TheVariants as kind
-use Rattle.ver_check.specs.working.Scopes.{Declaration, is_driven}
-use Rattle.ver_places.specs.working.Places.{place_at, range_places, behind, port_places, item_places}
-use Rattle.ver_check.specs.working.ItemFaults.{Before, Driver, port_faults, item_faults, at_array}
+use Rattle.ver_check.specs.Scopes.{Declaration, is_driven}
+use Rattle.ver_places.specs.Places.{place_at, range_places, behind, port_places, item_places}
+use Rattle.ver_check.specs.ItemFaults.{Before, Driver, port_faults, item_faults, at_array}
 
 -- nothing stands before
 abbrev pub nothing_before : Before

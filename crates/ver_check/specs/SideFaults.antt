@@ -8,12 +8,12 @@ use Rattle.ver_ast.specs.declared.tree.UnaryOp.TheVariants as unary
 use Rattle.ver_ast.specs.Atoms.{AtomTree, net, constant, bit_select, part_select}
 use Rattle.ver_ast.specs.Grammar.{atom_tokens}
 use Rattle.ver_ast.specs.SoundSides.{OperandRule, arithmetic, shift, comparison, binary_rule, signed_rule}
-use Rattle.ver_fault.specs.working.Faults.{VFault}
-use Rattle.ver_check.specs.working.FaultForms.{undeclared_fault, width_fault, kind_fault}
+use Rattle.ver_fault.specs.Faults.{VFault}
+use Rattle.ver_check.specs.FaultForms.{undeclared_fault, width_fault, kind_fault}
 use Rattle.ver_check.specs.declared.kind.Kind.{Kind}
-use Rattle.ver_check.specs.working.Scopes.{Scope, kind_of, word_bits, bits_of, is_clock_input}
-use Rattle.ver_places.specs.working.Places.{place_at, behind}
-use Rattle.ver_check.specs.working.OperandFaults.{name_faults, atom_bits, width_faults, atom_faults}
+use Rattle.ver_check.specs.Scopes.{Scope, kind_of, word_bits, bits_of, is_clock_input}
+use Rattle.ver_places.specs.Places.{place_at, behind}
+use Rattle.ver_check.specs.OperandFaults.{name_faults, atom_bits, width_faults, atom_faults}
 
 -- the bits that the first and the second operand need beside a target of w bits; compared operands have one width
 abbrev pub first_needs : OperandRule → ℕ → Option ℕ

@@ -1,4 +1,0 @@
--- What no clause of `run` reads: contracts between layers, laws, views of the code and its states.
-pub mod Faults
-pub mod Texts
-pub mod View
