@@ -1,5 +1,5 @@
 -- What comes of looking a tree through for faults.
-use Rattle.std.specs.Prelude.{◌≡◌, [], Result, Ok, Err}
+use Rattle.std.specs.Prelude.{◌≡◌, List, [], Result, Ok, Err}
 use Rattle.fir_base.specs.declared.refused.Refused.{Refused}
 use Rattle.fir_base.specs.declared.refused.Refused.TheVariants.{Fault, Memory}
 use Rattle.ver_ast.specs.declared.tree.Verilog.{Verilog}
