@@ -31,7 +31,14 @@ count() {
   fi
 }
 
-rows=0 circuits=0 faults=0 names=0 types=0 inferred=0 costs=0 driven=0 skipped=
+# Adds to `texts` on how many Verilog texts the last part found nothing; it skips them where the program
+# has no vsim.
+count_texts() {
+  counted=$(sed -n 's/^verilog [a-z]*: the same on \([0-9]*\) texts.*/\1/p' "$log" | tail -n 1)
+  texts=$((texts + ${counted:-0}))
+}
+
+rows=0 circuits=0 texts=0 faults=0 names=0 types=0 inferred=0 costs=0 driven=0 skipped=
 if command -v python3 >/dev/null 2>&1; then
   part rows python3 checks/rows.py
   count rows 'rows: \([0-9]*\) passed.*'
@@ -61,6 +68,16 @@ if command -v python3 >/dev/null 2>&1; then
   part driven python3 checks/driven.py check 200
   count driven 'driven: the same on \([0-9]*\) circuits.*'
   driven=$counted
+  part verilog_rows python3 checks/verilog_rows.py --check
+  part verilog_runs python3 checks/verilog_runs.py --check
+  part verilog_texts python3 checks/verilog_texts.py 200 400
+  count_texts
+  part verilog_text_forms python3 checks/verilog_texts.py forms 60
+  count_texts
+  part verilog_simulated python3 checks/verilog_simulated.py 100
+  count_texts
+  part verilog_examples python3 checks/verilog_simulated.py examples
+  part verilog_tools python3 checks/verilog_tools.py 40
   part definitions python3 checks/definitions.py --check
   part row_trees python3 checks/row_trees.py --check
 else
@@ -76,5 +93,6 @@ outcome="passed$skipped"
 echo "checks: $rows rows, $circuits circuits, $faults with faults," \
   "$names circuits of names, $types circuits of types," \
   "$inferred circuits of resets and widths, $costs circuits of costs," \
-  "$driven circuits of leaves that are driven, $counted examples: $outcome"
+  "$driven circuits of leaves that are driven, $texts Verilog texts," \
+  "$counted examples: $outcome"
 [ "${#failed[@]}" -eq 0 ]

@@ -5,7 +5,8 @@ import re
 
 HEADING = b"circuit T :\n  module T :\n"
 COMMANDS = {"check": "check f.fir", "emit": "emit f.fir", "sim": "sim f.fir t",
-            "sim --state": "sim f.fir t --state", "vsim": "vsim f.fir t"}
+            "sim --state": "sim f.fir t --state", "vsim": "vsim f.fir t",
+            "vsim --state": "vsim f.fir t --state"}
 # the kinds of the lines of a row, in their order
 ORDER = ["row:", "command", "text", "trace", "status", "out", "err"]
 MARKS = {"\\": b"\\", "n": b"\n", "r": b"\r", "t": b"\t", "s": b" "}

@@ -201,7 +201,7 @@ class Parser:
 
     def module(self):
         self.take("module")
-        self.name()
+        self.name_of_module = self.name()
         self.take("(")
         if not self.sees(")"):
             self.port()

@@ -32,10 +32,11 @@ class Net:
 class TextMaker:
     """Makes the tokens of a module: `head` is a list of ports, and `items` a list of items, each a
     list of spellings. With `for_tools` it leaves out what other tools take otherwise; with
-    `has_walks` nets may read each other in a ring."""
+    `has_walks` nets may read each other in a ring; with `has_input_resets` resets are inputs."""
 
-    def __init__(self, chance, for_tools=False, has_walks=False):
+    def __init__(self, chance, for_tools=False, has_walks=False, has_input_resets=False):
         self.chance, self.for_tools, self.has_walks = chance, for_tools, has_walks
+        self.has_input_resets = has_input_resets
         self.nets, self.free = [], list(FIRST_NAMES)
         if not for_tools:
             self.free += LATER_WORDS
@@ -125,7 +126,8 @@ class TextMaker:
     def reset(self, net):
         """A net of one bit that the register may have as its reset."""
         return self.chance.choice([other.name for other in self.readable(net)
-                                   if other.width == 1] or [""])
+                                   if other.width == 1
+                                   and (other.word == "input" or not self.has_input_resets)] or [""])
 
     def resetting(self, net):
         reset = self.reset(net)

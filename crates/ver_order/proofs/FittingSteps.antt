@@ -12,7 +12,7 @@ use Rattle.ver_ast.specs.Valid.{Valid}
 use Rattle.ver_ast.specs.Stores.{Store, store_of}
 use Rattle.ver_ast.specs.Processes.{Process, processes, target, given}
 use Rattle.ver_ast.proofs.NextFits.{given_below}
-use Rattle.ver_order.specs.working.Steps.{process_step, step, step_of, steps}
+use Rattle.ver_order.specs.Steps.{process_step, step, step_of, steps}
 use Rattle.ver_order.specs.working.Laws.{FitNets}
 
 module _ (v : Verilog) (valid : Valid v) (state : List ℕ) (state_fits : FitEach (shape v).state state) where

@@ -10,8 +10,9 @@ use Rattle.ver_ast.specs.Valid.{Valid}
 use Rattle.ver_ast.specs.Stores.{Store, store_of}
 use Rattle.ver_ast.specs.Processes.{processes, target, wanted}
 use Rattle.ver_ast.specs.Settled.{SourcesShown, VSettled}
-use Rattle.ver_order.specs.working.Steps.{steps}
-use Rattle.ver_order.specs.working.Rounds.{process_count, repeated_steps, IsRound, HasRounds, SettlesFirstAfter}
+use Rattle.ver_order.specs.Steps.{steps}
+use Rattle.ver_order.specs.working.Rounds.{IsRound, HasRounds}
+use Rattle.ver_order.specs.Rounds.{process_count, repeated_steps, SettlesFirstAfter}
 use Rattle.ver_order.specs.working.Laws.{ShowValues}
 use Rattle.ver_order.proofs.StepsAtRest.{steps_append}
 use Rattle.ver_order.proofs.Rounds.{sources_stay, settles}

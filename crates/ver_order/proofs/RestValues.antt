@@ -14,8 +14,9 @@ use Rattle.ver_ast.specs.Valid.{ReadsBefore}
 use Rattle.ver_ast.specs.Stores.{Store}
 use Rattle.ver_ast.specs.Processes.{Process, processes, target, process_targets, process_reads, given}
 use Rattle.ver_ast.proofs.Processes.{same_given}
-use Rattle.ver_order.specs.working.Steps.{process_step, step, step_of, steps}
-use Rattle.ver_order.specs.working.Rounds.{HasRounds, process_count}
+use Rattle.ver_order.specs.Steps.{process_step, step, step_of, steps}
+use Rattle.ver_order.specs.working.Rounds.{HasRounds}
+use Rattle.ver_order.specs.Rounds.{process_count}
 use Rattle.ver_order.proofs.StepsAtRest.{steps_append}
 
 module _ (v : Verilog) (store : Store) (e : Env) (shows : (p : Process) → In (processes v) p → e (target p) ≡ given v store e p) where

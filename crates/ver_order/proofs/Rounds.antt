@@ -15,8 +15,9 @@ use Rattle.ver_ast.specs.working.Laws.{HasOneRest}
 use Rattle.ver_ast.proofs.Parts.{named_left, named_right}
 use Rattle.ver_ast.proofs.Processes.{same_given, sources, undriven, target_is_net, read_once}
 use Rattle.ver_ast.proofs.OneRest.{has_one_rest, in_order, same_sources, same_clocks, same_nets}
-use Rattle.ver_order.specs.working.Steps.{steps}
-use Rattle.ver_order.specs.working.Rounds.{HasRounds, process_count}
+use Rattle.ver_order.specs.Steps.{steps}
+use Rattle.ver_order.specs.working.Rounds.{HasRounds}
+use Rattle.ver_order.specs.Rounds.{process_count}
 use Rattle.ver_order.proofs.Elements.{same_by, no_longer}
 use Rattle.ver_order.proofs.RestValues.{HasRestValues, HoldsReads, steps_keep, rounds_give}
 

@@ -17,8 +17,9 @@ use Rattle.ver_ast.specs.Atoms.{net}
 use Rattle.ver_ast.specs.Nets.{variables}
 use Rattle.ver_ast.specs.Stores.{store_of}
 use Rattle.ver_ast.specs.Processes.{processes, process_targets}
-use Rattle.ver_order.specs.working.Steps.{steps}
-use Rattle.ver_order.specs.working.Rounds.{IsRound, HasRounds, repeated_steps, process_count}
+use Rattle.ver_order.specs.Steps.{steps}
+use Rattle.ver_order.specs.working.Rounds.{IsRound, HasRounds}
+use Rattle.ver_order.specs.Rounds.{repeated_steps, process_count}
 
 abbrev bits : Direction → List ℕ → Port
 bits d n = record { is_clock = false; direction = d; width = 4; name = n }

@@ -11,7 +11,7 @@ use Rattle.ver_ast.specs.Nets.{variables}
 use Rattle.ver_ast.specs.Stores.{Store, store_of}
 use Rattle.ver_ast.specs.Processes.{Process, processes, target, given}
 use Rattle.ver_ast.specs.Settled.{Rest}
-use Rattle.ver_order.specs.working.Steps.{step, step_of, steps}
+use Rattle.ver_order.specs.Steps.{step, step_of, steps}
 
 -- at rest a step changes nothing
 pub step_keeps_rest : (v : Verilog) (state : List ℕ) (tick : Tick) (env : Env) → Rest v state tick env → (k : ℕ) → step v (store_of (variables v) state) env k ≡ env

@@ -10,8 +10,8 @@ use Rattle.ver_ast.specs.Nets.{SizedNet, nets, variables}
 use Rattle.ver_ast.specs.Stores.{Store, store_of}
 use Rattle.ver_ast.specs.Processes.{Process, assigning, processes, target, wanted, given}
 use Rattle.ver_ast.specs.Settled.{SourcesShown, VSettled}
-use Rattle.ver_order.specs.working.Steps.{steps}
-use Rattle.ver_order.specs.working.Rounds.{repeated_steps, process_count, SettlesFirstAfter}
+use Rattle.ver_order.specs.Steps.{steps}
+use Rattle.ver_order.specs.Rounds.{repeated_steps, process_count, SettlesFirstAfter}
 use Rattle.ver_order.proofs.StepRows.{chain, four}
 
 abbrev no_words : Store

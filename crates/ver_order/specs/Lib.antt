@@ -1,1 +1,4 @@
+pub mod ShownWords
+pub mod Rounds
+pub mod Steps
 pub mod working

@@ -1,5 +1,4 @@
 -- What no clause of `run` reads: steps, rounds and edges in any order, and laws about them.
-pub mod Steps
 pub mod Rounds
 pub mod Arranged
 pub mod Edges

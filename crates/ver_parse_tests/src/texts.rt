@@ -304,7 +304,8 @@ fn places_of_a_tree(rt: HostRuntime) -> Result<(), Fail> {
 /// The columns of the places of the text's tree, or nothing where it has none.
 fn columns_of(alloc: Global, text: &[u8]) -> Result<Vec<u32>, MemoryOut> {
     let mut columns = Vec::new(alloc);
-    if let Read::Tree(tree) = read(alloc, text)? {
+    let found = read_text(alloc, text)?;
+    if let Read::Tree(tree) = &found {
         for place in tree.places.as_slice() {
             columns.push(place.col)?;
         }
@@ -315,7 +316,8 @@ fn columns_of(alloc: Global, text: &[u8]) -> Result<Vec<u32>, MemoryOut> {
 /// The line of the text's fault, or nothing where it has a tree.
 fn line_of(alloc: Global, text: &[u8]) -> Result<Vec<u8>, MemoryOut> {
     let mut line = Vec::new(alloc);
-    match read(alloc, text)? {
+    let found = read_text(alloc, text)?;
+    match &found {
         Read::Tree(_) => {}
         Read::Fault(fault) => fault.put_line(alloc, &mut line)?,
         Read::Long => line.extend_from_slice(b"long")?,
@@ -340,7 +342,7 @@ impl Drop for Read {
     }
 }
 
-fn read(alloc: Global, text: &[u8]) -> Result<Read, MemoryOut> {
+fn read_text(alloc: Global, text: &[u8]) -> Result<Read, MemoryOut> {
     if text.len() > 16777216 {
         return Ok(Read::Long);
     }

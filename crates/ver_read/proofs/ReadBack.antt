@@ -10,7 +10,8 @@ use Rattle.ver_emit.specs.Layout.{layout}
 use Rattle.ver_emit.specs.working.Laws.{LayoutIsSpelled}
 use Rattle.ver_fault.specs.declared.fault.VerFault.{VerFault}
 use Rattle.ver_fault.specs.View.{vfault_of}
-use Rattle.ver_read.specs.Reads.{IsTextOf, Reads}
+use Rattle.ver_read.specs.Reads.{IsTextOf}
+use Rattle.ver_read.specs.working.Checked.{Reads}
 use Rattle.ver_read.specs.working.Laws.{IsReadBack, RefusedIsNotValid, WrittenIsReadBack}
 
 module _ (one : SpellsOneTree) (places_law : PlacesCountForNothing) (laid_out : LayoutIsSpelled) (never_both : RefusedIsNotValid) where

@@ -14,8 +14,8 @@ use Rattle.ver_lex.specs.working.Lexed.{Lexed, IsLexed}
 use Rattle.ver_parse.specs.working.Parsed.{IsTreeOf}
 use Rattle.ver_check.specs.working.Laws.{FaultlessIsValid}
 use Rattle.ver_check.specs.TreeFaults.{misfits, undriven}
-use Rattle.ver_read.specs.Reads.{IsTextOf, HasTree, IsTreeFault, IsFaultOf, Reads}
-use Rattle.ver_read.specs.working.Checked.{TreeChecked}
+use Rattle.ver_read.specs.Reads.{IsTextOf, HasTree, IsTreeFault, IsFaultOf}
+use Rattle.ver_read.specs.working.Checked.{Reads, TreeChecked}
 use Rattle.ver_read.proofs.ShallowTexts.{tree_is_shallow}
 
 of_text : (bytes : List ℕ) (t : Lexed) → IsLexed bytes t → t.stop ≡ None → HasTokens bytes t.tokens

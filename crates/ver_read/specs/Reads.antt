@@ -1,15 +1,11 @@
 -- Which texts of the Verilog subset are taken, and for which fault the others are refused (IEEE 1364-2005, cut to the subset).
 -- A text is taken where it spells a valid tree. Else the first fault counts: of the text; or else, in the tree that it spells, of what does not fit, in the order of
 -- the text; or else of what nothing drives; or else of closed walks.
-use Rattle.std.specs.Prelude.{◌≡◌, ◌⊎◌, ℕ, List, [], Result, Ok, Err}
-use Rattle.fir_base.specs.declared.refused.Refused.{Refused}
-use Rattle.fir_base.specs.declared.refused.Refused.TheVariants.{Fault, Memory}
+use Rattle.std.specs.Prelude.{◌≡◌, ◌⊎◌, ℕ, List, []}
 use Rattle.ver_ast.specs.declared.tree.Verilog.{Verilog}
 use Rattle.ver_ast.specs.Spells.{VSpells}
 use Rattle.ver_ast.specs.Valid.{Valid}
-use Rattle.ver_fault.specs.declared.fault.VerFault.{VerFault}
 use Rattle.ver_fault.specs.Faults.{VFault}
-use Rattle.ver_fault.specs.View.{vfault_of}
 use Rattle.ver_parse.specs.Depths.{IsShallow}
 use Rattle.ver_parse.specs.TextFaults.{TextFault}
 use Rattle.ver_check.specs.TreeFaults.{misfits, undriven, BeginsWith}
@@ -35,8 +31,3 @@ IsTreeFault v f =
 -- the first fault of a text, or else of its tree
 abbrev pub IsFaultOf : List ℕ → VFault → Type 0
 IsFaultOf bytes f = TextFault bytes f ⊎ ((v : Verilog) × HasTree bytes v × IsTreeFault v f)
-
-abbrev pub Reads : List ℕ → Result Verilog (Refused VerFault) → Type 0
-Reads bytes (Ok v) = IsTextOf bytes v
-Reads bytes (Err (Fault f)) = IsFaultOf bytes (vfault_of f)
-Reads bytes (Err Memory) = Unit {0}

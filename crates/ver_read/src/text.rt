@@ -1,8 +1,7 @@
 //! From the bytes of a text to its tree.
 
 ghost use Rattle.std.specs.Prelude.{◌≤◌, length};
-ghost use Rattle.ver_read.specs.Reads.{Reads};
-ghost use Rattle.ver_read.specs.working.Checked.{TreeChecked};
+ghost use Rattle.ver_read.specs.working.Checked.{Reads, TreeChecked};
 
 use fir_base::Refused;
 use std::alloc::Global;

@@ -34,7 +34,8 @@ use Rattle.ver_sim.specs.declared.tables.Tables.{Tables}
 use Rattle.ver_sim.specs.working.Valued.{place_among, valued, env_of}
 use Rattle.ver_sim.specs.working.FlatStates.{base_of, depth_of, flat, FlatPut}
 use Rattle.ver_sim.specs.working.Operands.{operand_number}
-use Rattle.ver_sim.specs.working.Blocks.{edge_puts, some_edge_puts, write_puts, word_put, ClocksShown, IsBlockTaskOf, IsEdgeTaskOf, AreEdgeTasks, HasSoundEdge, IsSomeWrite, IsWriteTaskOf}
+use Rattle.ver_sim.specs.working.Blocks.{edge_puts, some_edge_puts, write_puts, word_put, IsBlockTaskOf, IsEdgeTaskOf, AreEdgeTasks, HasSoundEdge, IsSomeWrite, IsWriteTaskOf}
+use Rattle.ver_sim.specs.ClocksShown.{ClocksShown}
 use Rattle.ver_sim.specs.working.Pairs.{EachPair, Appends}
 use Rattle.ver_sim.specs.working.Tables.{Know}
 use Rattle.ver_sim.proofs.KnownNames.{valued_once}

@@ -12,7 +12,8 @@ use Rattle.ver_order.specs.working.Laws.{FitNets}
 use Rattle.ver_sim.specs.declared.blocks.BlockTask.{BlockTask}
 use Rattle.ver_sim.specs.working.Valued.{env_of}
 use Rattle.ver_sim.specs.working.FlatStates.{flat, FlatPut, flat_all}
-use Rattle.ver_sim.specs.working.Blocks.{acted, AreBlockTasks, ClocksShown, all_block_puts}
+use Rattle.ver_sim.specs.working.Blocks.{acted, AreBlockTasks, all_block_puts}
+use Rattle.ver_sim.specs.ClocksShown.{ClocksShown}
 use Rattle.ver_sim.proofs.FlatStates.{flat_state}
 
 -- the blocks that a test chooses give what all blocks give, where others give nothing

@@ -1,6 +1,6 @@
 -- Turns, one more, and tasks that show their values, one more.
-use Rattle.std.proofs.Common.{◌≡◌, ℕ, ◌+◌, ◌<◌, ◌≤◌, ◌⊎◌, List, [], drop, length, get_or, refl, sym, ap, ◌∙◌, inl, inr, Bool, true, false, arith}
-use Rattle.std.specs.Prelude.{Option, Some, None, not, slice_index}
+use Rattle.std.proofs.Common.{◌≡◌, ℕ, ◌+◌, ◌<◌, ◌≤◌, ◌⊎◌, List, [], drop, length, get_or, refl, sym, ap, ◌∙◌, inl, inr, Bool, true, false, arith, length-set}
+use Rattle.std.specs.Prelude.{Option, Some, None, not, slice_get, slice_index, unwrap_or}
 use Rattle.std.specs.Option.{option_eq}
 use Rattle.std.proofs.Math.Dec.{eqb}
 use Rattle.std.proofs.lemmas.Bool.{cases_lt, eqb-true}
@@ -8,13 +8,20 @@ use Rattle.std.proofs.lemmas.List.{at_drop_more}
 use Rattle.std.proofs.lemmas.Option.{get_or_from_slice_get}
 use Rattle.ver_sim.specs.declared.task.Task.{Task}
 use Rattle.ver_sim.specs.working.Works.{work_number}
-use Rattle.ver_sim.specs.working.Turns.{turn, turns, ShowFirst}
+use Rattle.ver_sim.specs.working.Turns.{turn, turn_of, turns, ShowFirst}
 
 pub turns_next : (tasks : List Task) (state order : List ℕ) (i : ℕ) (values new start : List ℕ) → i < length order
     → turns tasks state (drop i order) values ≡ start → new ≡ turn tasks state values (get_or order i 0) → turns tasks state (drop (i + 1) order) new ≡ start
 unfolding turns
 turns_next tasks state order i values new start lt h n =
     ap (turns tasks state (drop (i + 1) order)) n ∙ sym (at_drop_more (λ l. turns tasks state l values) order i 0 lt) ∙ h
+
+pub turn_long : (tasks : List Task) (state : List ℕ) (k : ℕ) (values : List ℕ) → length (turn tasks state values k) ≡ length values
+turn_long tasks state k values = by (slice_get tasks k)
+  where
+    by : (o : Option Task) → length (turn_of state values o) ≡ length values
+    by None = refl
+    by (Some t) = length-set values t.target (unwrap_or (work_number t.work state values) 0)
 
 pub turns_none : (tasks : List Task) (state values : List ℕ) → turns tasks state [] values ≡ values
 unfolding turns

@@ -20,18 +20,20 @@ use Rattle.ver_ast.proofs.Nets.{reg_is_net, source_is_net}
 use Rattle.ver_ast.proofs.NextFits.{next_fits}
 use Rattle.ver_ast.proofs.Processes.{read_once, width_is, sources_once, variables_once}
 use Rattle.ver_ast.proofs.Stores.{stored_fits}
-use Rattle.ver_order.specs.working.Edges.{words_shown}
+use Rattle.ver_order.specs.ShownWords.{words_shown}
 use Rattle.ver_order.specs.working.Laws.{FitNets, EdgesLeaveNext}
-use Rattle.ver_order.specs.working.Steps.{steps}
+use Rattle.ver_order.specs.Steps.{steps}
 use Rattle.ver_order.proofs.Rounds.{sources_stay}
 use Rattle.ver_sim.specs.declared.plan.Plan.{Plan}
 use Rattle.ver_sim.specs.declared.shown.ShownWord.{ShownWord}
 use Rattle.ver_sim.specs.working.Valued.{place_among, valued, env_of}
 use Rattle.ver_sim.specs.working.Turns.{turns}
 use Rattle.ver_sim.specs.working.FlatStates.{flat_all}
-use Rattle.ver_sim.specs.working.Blocks.{all_block_puts, ClocksShown}
+use Rattle.ver_sim.specs.working.Blocks.{all_block_puts}
+use Rattle.ver_sim.specs.ClocksShown.{ClocksShown}
 use Rattle.ver_sim.specs.working.ShownWords.{words_put, AreShown}
-use Rattle.ver_sim.specs.working.Inputs.{inputs_put, HaveInputs}
+use Rattle.ver_sim.specs.working.Inputs.{inputs_put}
+use Rattle.ver_sim.specs.Inputs.{HaveInputs}
 use Rattle.ver_sim.specs.working.Views.{IsTickOf}
 use Rattle.ver_sim.specs.working.Edges.{EveryOrderLeaves}
 use Rattle.ver_sim.specs.working.Running.{AreValues, IsRunning}

@@ -35,9 +35,11 @@ use Rattle.ver_sim.specs.declared.tables.Tables.{Tables}
 use Rattle.ver_sim.specs.declared.work.Work.{Work}
 use Rattle.ver_sim.specs.working.Valued.{env_of}
 use Rattle.ver_sim.specs.working.FlatStates.{depth_of}
-use Rattle.ver_sim.specs.working.Blocks.{ClocksShown, IsWriteTaskOf}
+use Rattle.ver_sim.specs.working.Blocks.{IsWriteTaskOf}
+use Rattle.ver_sim.specs.ClocksShown.{ClocksShown}
 use Rattle.ver_sim.specs.working.Checks.{CanHave, AreChecks, ChecksItem}
-use Rattle.ver_sim.specs.working.Lacking.{item_lacks, first_from, can_lack, write_lacks, lacks, lacking_place}
+use Rattle.ver_sim.specs.working.Lacking.{can_lack, write_lacks, lacks, lacking_place}
+use Rattle.ver_sim.specs.Lacking.{item_lacks, first_from}
 use Rattle.ver_sim.specs.working.Operands.{operand_number}
 use Rattle.ver_sim.specs.working.Pairs.{EachPair}
 use Rattle.ver_sim.specs.working.Tables.{Know}

@@ -14,6 +14,7 @@ pub mod Numbering
 pub mod WordSpans
 pub mod KnownNames
 pub mod OperandPieces
+pub mod ReadPlaces
 pub mod ReadForms
 pub mod PairLists
 pub mod WorkForms
@@ -22,6 +23,11 @@ pub mod BlockForms
 pub mod PlannedNets
 pub mod Starting
 pub mod LackingItems
-pub mod RestRounds
+pub mod TaskTargets
+pub mod TaskOrders
+pub mod TaskGraphs
+pub mod WorkPlaces
+pub mod Settling
 pub mod Ticking
 pub mod TraceWidths
+pub mod NamedShapes

@@ -12,10 +12,10 @@ use Rattle.ver_ast.specs.Nets.{SizedNet, input_nets, output_nets, wires, regs, p
 use Rattle.ver_ast.specs.Stores.{Store, store_of}
 use Rattle.ver_ast.specs.Valid.{Valid}
 use Rattle.ver_ast.proofs.Chosen.{chosen, in_or_not}
-use Rattle.ver_order.specs.working.Edges.{words_shown}
+use Rattle.ver_order.specs.ShownWords.{words_shown}
 use Rattle.ver_sim.specs.declared.plan.Plan.{Plan}
 use Rattle.ver_sim.specs.working.Valued.{place_among, valued, env_of}
-use Rattle.ver_sim.specs.working.Inputs.{HaveInputs}
+use Rattle.ver_sim.specs.Inputs.{HaveInputs}
 use Rattle.ver_sim.specs.working.Running.{IsPlan, AreOutputs}
 
 abbrev net_name : SizedNet → List ℕ

@@ -1,5 +1,5 @@
 -- Names and their places: a place within a list belongs to one name.
-use Rattle.std.proofs.Common.{◌≡◌, ℕ, zero, suc, ◌<◌, List, [], ◌∷◌, length, cond, true, false, Bool, refl, sym, ap, ◌∙◌, inl, inr, arith, get_or-set_same, get_or-set_other}
+use Rattle.std.proofs.Common.{◌≡◌, ℕ, zero, suc, ◌<◌, List, [], ◌∷◌, ◌++◌, append-nil, subst, length, cond, true, false, Bool, refl, sym, ap, ◌∙◌, inl, inr, arith, get_or-set_same, get_or-set_other}
 use Rattle.std.specs.Prelude.{Some, slice_get, slice_set}
 use Rattle.std.specs.Str.{bytes_eq}
 use Rattle.std.proofs.lemmas.Bool.{cond-true, cond-false}
@@ -9,16 +9,19 @@ use Rattle.fir_base.proofs.SameNames.{name_is, name_same, name_other, name_apart
 use Rattle.ver_ast.specs.declared.tree.Verilog.{Verilog}
 use Rattle.ver_sim.specs.working.Valued.{place_among, valued, env_of}
 
-pub place_below : (ns : List (List ℕ)) (n : List ℕ) → In ns n → place_among ns n < length ns
-place_below [] n m = absurd m
-place_below (k ∷ ks) n (inl e) = rw (e, name_same n) (omega arith)
-place_below (k ∷ ks) n (inr m) = by (bytes_eq k n) (place_below ks n m)
+pub place_left : (xs ys : List (List ℕ)) (n : List ℕ) → In xs n → place_among (xs ++ ys) n < length xs
+place_left [] ys n m = absurd m
+place_left (x ∷ xs) ys n m = by (bytes_eq x n) refl m (place_left xs ys n)
   where
-    by : (b : Bool) → place_among ks n < length ks → cond b 0 (suc (place_among ks n)) < suc (length ks)
-    by true h = omega arith
-    by false h = omega arith
+    by : (b : Bool) → bytes_eq x n ≡ b → In (x ∷ xs) n → (In xs n → place_among (xs ++ ys) n < length xs) → cond b 0 (suc (place_among (xs ++ ys) n)) < suc (length xs)
+    by true e i ih = omega arith
+    by false e (inl s) ih = let no-such : true ≡ false = sym (name_same x) ∙ ap (bytes_eq x) s ∙ e in absurd (cc)
+    by false e (inr i) ih = let h = ih i in omega arith
 
-same_place : (ns : List (List ℕ)) (n m : List ℕ) → In ns m → place_among ns n ≡ place_among ns m → n ≡ m
+pub place_below : (ns : List (List ℕ)) (n : List ℕ) → In ns n → place_among ns n < length ns
+place_below ns n m = subst (λ (ks : List (List ℕ)). place_among ks n < length ns) (append-nil ns) (place_left ns [] n m)
+
+pub same_place : (ns : List (List ℕ)) (n m : List ℕ) → In ns m → place_among ns n ≡ place_among ns m → n ≡ m
 same_place [] n m i e = absurd i
 same_place (k ∷ ks) n m i e = by (bytes_eq k n) (bytes_eq k m) refl refl e i (λ o h. same_place ks n m o h)
   where

@@ -1,5 +1,5 @@
 -- Turns of tasks are steps of processes.
-use Rattle.std.proofs.Common.{subst, ◌≡◌, ℕ, List, [], ◌∷◌, length, cond, refl, sym, ap, ◌∙◌, arith, length-set}
+use Rattle.std.proofs.Common.{subst, ◌≡◌, ℕ, List, [], ◌∷◌, length, cond, refl, sym, ap, ◌∙◌, arith}
 use Rattle.std.specs.Prelude.{slice_get, slice_index, slice_set, Option, Some, None, unwrap_or}
 use Rattle.std.specs.Str.{bytes_eq}
 use Rattle.std.proofs.lemmas.Option.{slice_get_within}
@@ -13,7 +13,7 @@ use Rattle.ver_ast.specs.Valid.{Valid}
 use Rattle.ver_ast.specs.Stores.{Store, store_of}
 use Rattle.ver_ast.specs.Processes.{Process, processes, target, wanted}
 use Rattle.ver_ast.proofs.Processes.{target_is_net}
-use Rattle.ver_order.specs.working.Steps.{process_step, step, step_of, steps}
+use Rattle.ver_order.specs.Steps.{process_step, step, step_of, steps}
 use Rattle.ver_order.specs.working.Laws.{FitNets}
 use Rattle.ver_order.proofs.FittingSteps.{steps_fit}
 use Rattle.ver_sim.specs.declared.task.Task.{Task}
@@ -22,6 +22,7 @@ use Rattle.ver_sim.specs.working.Works.{work_number}
 use Rattle.ver_sim.specs.working.Turns.{turn, turn_of, turns, ShowFirst, IsFirstUnsettled}
 use Rattle.ver_sim.specs.working.Valued.{valued, env_of}
 use Rattle.ver_sim.specs.working.Tasks.{IsTaskOf, AreTasks, IsNotYet}
+use Rattle.ver_sim.proofs.InTurn.{turn_long}
 use Rattle.ver_sim.proofs.PlacedNames.{put_value}
 
 -- as many tasks as processes
@@ -57,13 +58,6 @@ module _ (v : Verilog) (tasks : List Task) (state : List ℕ) (valid : Valid v) 
           let no-such : None ≡ Some t.0 = sym f ∙ t.1 in
           absurd (cc)
 
-  turn_long : (k : ℕ) (values : List ℕ) → length (turn tasks state values k) ≡ length values
-  turn_long k values = by (slice_get tasks k)
-    where
-      by : (o : Option Task) → length (turn_of state values o) ≡ length values
-      by None = refl
-      by (Some t) = length-set values t.target (unwrap_or (work_number t.work state values) 0)
-
   -- values that fit still do after a step
   step_fits : (k : ℕ) (values : List ℕ) → FitNets v (env_of v values) → FitNets v (step v words (env_of v values) k)
   unfolding steps
@@ -82,8 +76,8 @@ module _ (v : Verilog) (tasks : List Task) (state : List ℕ) (valid : Valid v) 
   unfolding turns steps
   turns_are_steps [] values long fit = record { steps_are = refl; long = refl; fit = fit }
   turns_are_steps (k ∷ ks) values long fit =
-      let rest = turns_are_steps ks (turn tasks state values k) (turn_long k values ∙ long) (turn_fits k values long fit) in
-      record { steps_are = rest.steps_are ∙ ap (steps v words ks) (one_turn k values long fit); long = rest.long ∙ turn_long k values; fit = rest.fit }
+      let rest = turns_are_steps ks (turn tasks state values k) (turn_long tasks state k values ∙ long) (turn_fits k values long fit) in
+      record { steps_are = rest.steps_are ∙ ap (steps v words ks) (one_turn k values long fit); long = rest.long ∙ turn_long tasks state k values; fit = rest.fit }
 
   shown_there : (values : List ℕ) → FitNets v (env_of v values) → (k : ℕ) (t : Task) (p : Process) → slice_get tasks k ≡ Some t → slice_get (processes v) k ≡ Some p
       → work_number t.work state values ≡ Some (slice_index values t.target) → wanted v words (env_of v values) p ≡ Some (env_of v values (target p))

@@ -13,7 +13,7 @@ use Rattle.ver_ast.specs.declared.tree.SignedOp.TheVariants as signed
 use Rattle.ver_ast.specs.declared.tree.Item.{Item}
 use Rattle.ver_ast.specs.declared.tree.Item.TheVariants as item
 use Rattle.ver_ast.specs.AtomForms.{constant_number}
-use Rattle.ver_ast.specs.Nets.{SizedNet, nets, regs, arrays, Variable, reg_variable, variables, variable_names, names_of, width_among, assigns, resets, item_assign, item_block, block_reset, output_clocks, shape}
+use Rattle.ver_ast.specs.Nets.{SizedNet, nets, regs, arrays, Variable, reg_variable, variables, variable_names, names_of, assigns, resets, item_assign, item_block, block_reset, output_clocks, shape}
 use Rattle.ver_ast.specs.Processes.{Process, assigning, showing, processes, wanted}
 use Rattle.ver_ast.specs.SideValues.{rhs_value}
 use Rattle.ver_ast.specs.SoundSides.{IsSoundSide, KeepsRule, signed_rule}
@@ -36,6 +36,7 @@ use Rattle.ver_sim.specs.working.WorksOf.{IsWorkOf}
 use Rattle.ver_sim.proofs.KnownNames.{net_is_valued}
 use Rattle.ver_sim.proofs.PairLists.{one_more, pairs_long, pair_at, list_parts}
 use Rattle.ver_sim.proofs.ReadForms.{TellsPlace, TellsWidth, fitting_number}
+use Rattle.ver_sim.proofs.ReadPlaces.{place_of_one}
 use Rattle.ver_sim.proofs.ShowingWords.{reg_word}
 
 -- signed operands have one width
@@ -65,18 +66,22 @@ module _ (v : Verilog) (t : Tables) (k : Know v t) where
   net_named : (n : List ℕ) (w : ℕ) → In (nets v) (n, w) → In (names_of (nets v)) n
   net_named n w m = in_map (λ (s : SizedNet). s.0) (nets v) (n, w) m
 
+  -- the work beside the width of the target
+  assign_work : (a : Assign) → In (assigns v) a → (width : ℕ) (w : Work) → TellsWidth t a.target width
+      → ((u : Verilog) → Know u t → width ≤ 128 → IsSoundSide (nets u) (arrays u) width a.rhs → IsWorkOf u w width a.rhs) → IsWorkOf v w width a.rhs
+  assign_work a m width w tells_width h =
+      let s = k.valid.sound_assigns a m in
+      let same : width ≡ s.0 = tells_width v k (net_named a.target s.0 s.1) ∙ width_is v k.valid a.target s.0 s.1 in
+      h v k (omega (arith, same, (k.valid.narrow a.target s.0 s.1).1)) (subst (λ (x : ℕ). IsSoundSide (nets v) (arrays v) x a.rhs) (sym same) s.2)
+
   pub assign_computes : (a : Assign) → In (assigns v) a → (width : ℕ) (w : Work) → TellsWidth t a.target width
       → ((u : Verilog) → Know u t → width ≤ 128 → IsSoundSide (nets u) (arrays u) width a.rhs → IsWorkOf u w width a.rhs)
       → (state values : List ℕ) → FitEach (shape v).state state → FitNets v (env_of v values)
       → work_number w state values ≡ wanted v (store_of (variables v) state) (env_of v values) (assigning a)
   assign_computes a m width w tells_width h state values sf fit =
       let s = k.valid.sound_assigns a m in
-      let net : In (names_of (nets v)) a.target = net_named a.target s.0 s.1 in
-      let known : width ≡ width_among (nets v) a.target = tells_width v k net in
-      let same : width ≡ s.0 = known ∙ width_is v k.valid a.target s.0 s.1 in
-      let narrow : width ≤ 128 = omega (arith, same, (k.valid.narrow a.target s.0 s.1).1) in
-      let side : IsSoundSide (nets v) (arrays v) width a.rhs = subst (λ (x : ℕ). IsSoundSide (nets v) (arrays v) x a.rhs) (sym same) s.2 in
-      (h v k narrow side).same state values sf fit ∙ ap (λ (x : ℕ). rhs_value (nets v) (store_of (variables v) state) (env_of v values) x a.rhs) known
+      (assign_work a m width w tells_width h).same state values sf fit
+      ∙ ap (λ (x : ℕ). rhs_value (nets v) (store_of (variables v) state) (env_of v values) x a.rhs) (tells_width v k (net_named a.target s.0 s.1))
 
   pub assign_is : (a : Assign) → In (assigns v) a → (place width : ℕ) (w : Work) → TellsPlace t a.target place → TellsWidth t a.target width
       → ((u : Verilog) → Know u t → width ≤ 128 → IsSoundSide (nets u) (arrays u) width a.rhs → IsWorkOf u w width a.rhs)
@@ -86,6 +91,7 @@ module _ (v : Verilog) (t : Tables) (k : Know v t) where
       record {
         targets = tells_place v k (net_is_valued v a.target (net_named a.target s.0 s.1));
         computes = λ state values sf fit. assign_computes a m width w tells_width h state values sf fit;
+        reads = (assign_work a m width w tells_width h).reads;
       }
 
   pub reset_is : (b : Resetting) → In (resets v) b → (target reset value : ℕ) (span : Span) → TellsPlace t b.target target → TellsPlace t b.reset reset
@@ -105,6 +111,7 @@ module _ (v : Verilog) (t : Tables) (k : Know v t) where
             ∙ ap (λ (x : ℕ). Some (cond (env_of v values b.reset == 1) x (slice_index state span.base))) number
             ∙ ap (λ (x : ℕ). Some (cond (env_of v values b.reset == 1) (constant_number b.value) (slice_index state x))) base
             ∙ ap (λ (x : ℕ). Some (cond (env_of v values b.reset == 1) (constant_number b.value) x)) (sym (reg_word v state b.target reg));
+        reads = λ q i. place_of_one v q b.reset (subst (λ (x : ℕ). In (x ∷ []) q) place i);
       }
 
 -- the assign of a net is appended

@@ -1,6 +1,6 @@
 -- Operands by number: the pieces of each form, and what is read of them.
 use Rattle.std.proofs.Common.{◌≡◌, ℕ, zero, suc, ◌+◌, ◌-◌, ◌%◌, ◌^◌, ◌<◌, ◌≤◌, min, List, [], ◌∷◌, ◌++◌, length, get_or, refl, sym, ap, ◌∙◌, subst, arith, append_assoc, append-nil}
-use Rattle.std.specs.Prelude.{Option, Some, None, unwrap_or, Result, OnOk, Ok, Err, sum_by, slice_index, Vec}
+use Rattle.std.specs.Prelude.{Option, Some, None, unwrap_or, Result, OnOk, Ok, Err, flat_map, sum_by, slice_index, Vec}
 use Rattle.std.specs.declared.alloc.Global.{Global}
 use Rattle.std.proofs.Math.Nat.{mod-eq_of_lt}
 use Rattle.fir_bits.proofs.Powers.{pow_le}
@@ -17,16 +17,18 @@ use Rattle.ver_ast.proofs.NextFits.{width_there}
 use Rattle.fir_base.specs.Lists.{In}
 use Rattle.ver_sim.specs.declared.piece.Piece.{Piece}
 use Rattle.ver_sim.specs.declared.piece.Piece.TheVariants as piece
+use Rattle.ver_sim.specs.declared.operand.Operand.{Operand}
 use Rattle.ver_sim.specs.declared.operand.Operand.TheVariants as operand
 use Rattle.ver_sim.specs.declared.read.Read.{Read}
 use Rattle.ver_sim.specs.declared.tables.Tables.{Tables}
 use Rattle.ver_sim.specs.working.Valued.{place_among, valued}
-use Rattle.ver_sim.specs.working.Pieces.{piece_width, copied_pieces, pieces_number, pieces_of}
-use Rattle.ver_sim.specs.working.Operands.{operand_number}
+use Rattle.ver_sim.specs.working.Pieces.{piece_places, piece_width, copied_pieces, pieces_number, pieces_of}
+use Rattle.ver_sim.specs.working.Operands.{operand_number, operand_places}
 use Rattle.ver_sim.specs.working.Reads.{IsReadOf}
 use Rattle.ver_sim.specs.working.Tables.{Know}
 use Rattle.ver_sim.proofs.KnownNames.{wide_is_net, net_is_valued}
 use Rattle.ver_sim.proofs.OperandPieces.{pieces_are, pieces_width, sound_narrow}
+use Rattle.ver_sim.proofs.ReadPlaces.{atom_reads, place_of_one}
 
 -- a number that fits a width is in its type
 pub fitting_number : (o : Option ℕ) (w : ℕ) → w ≤ 128 → number_of o < 2 ^ w → unwrap_or o 0 ≡ number_of o
@@ -97,14 +99,17 @@ copies_none now start part count counter le h =
 pub net_read : (t : Tables) (n : List ℕ) (place width : ℕ) → TellsPlace t n place → TellsWidth t n width → (v : Verilog) → Know v t → IsSound (nets v) (net n)
     → IsReadOf v (record { operand = operand.Net place; width = width }) (net n)
 net_read t n place width p w v k s = record {
-  operand_is = record { same = λ values fit. ap (slice_index values) (net_place t n place p v k s) };
+  operand_is = record {
+    same = λ values fit. ap (slice_index values) (net_place t n place p v k s);
+    reads = λ q m. place_of_one v q n (subst (λ (x : ℕ). In (x ∷ []) q) (net_place t n place p v k s) m);
+  };
   width_is = w v k (wide_is_net v n s);
 }
 
 pub constant_read : (c : Constant) (x : ℕ) → x ≡ unwrap_or c.number 0 → (v : Verilog) → IsSound (nets v) (constant c.width (constant_number c))
     → IsReadOf v (record { operand = operand.Constant x; width = c.width }) (constant c.width (constant_number c))
 constant_read c x e v s = record {
-  operand_is = record { same = λ values fit. e ∙ fitting_number c.number c.width s.1 s.2 };
+  operand_is = record { same = λ values fit. e ∙ fitting_number c.number c.width s.1 s.2; reads = λ q m. absurd m };
   width_is = refl;
 }
 
@@ -115,6 +120,7 @@ pieces_read r out v valid a s is o w =
     record {
       operand_is = record {
         same = λ values fit. ap (operand_number values) o ∙ ap (λ (ps : List Piece). pieces_number values ps 0) is ∙ pieces_are v values fit a s narrow;
+        reads = λ q m. atom_reads v q a (subst (λ (ps : List Piece). In (flat_map piece_places ps) q) is (subst (λ (x : Operand). In (operand_places x) q) o m));
       };
       width_is =
           w ∙ ap (λ (ps : List Piece). sum_by piece_width ps % 2 ^ 32) is ∙ ap (λ (n : ℕ). n % 2 ^ 32) (pieces_width v a)

@@ -13,7 +13,7 @@ use Rattle.ver_ast.specs.Nets.{SizedNet, Variable, reg_variable, regs, plain_reg
 use Rattle.ver_ast.specs.Stores.{store_of, stored}
 use Rattle.ver_ast.proofs.Chosen.{chosen, among}
 use Rattle.ver_ast.proofs.Nets.{reg_is_net}
-use Rattle.ver_order.specs.working.Edges.{words_shown}
+use Rattle.ver_order.specs.ShownWords.{words_shown}
 use Rattle.ver_sim.specs.declared.shown.ShownWord.{ShownWord}
 use Rattle.ver_sim.specs.working.Valued.{valued, env_of}
 use Rattle.ver_sim.specs.working.FlatStates.{base_of, depth_of}

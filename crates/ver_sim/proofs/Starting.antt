@@ -1,14 +1,12 @@
 -- A simulator starts.
-use Rattle.std.proofs.Common.{◌≡◌, ℕ, zero, suc, ◌+◌, ◌<◌, List, [], ◌∷◌, ◌++◌, length, get_or, cond, true, false, Bool, refl, sym, ap, ◌∙◌, inl, inr, arith, length-append}
+use Rattle.std.proofs.Common.{◌≡◌, ℕ, zero, suc, ◌+◌, ◌<◌, List, [], ◌∷◌, ◌++◌, length, get_or, refl, ap, ◌∙◌, arith, length-append}
 use Rattle.std.specs.Prelude.{slice_get, replicate}
-use Rattle.std.specs.Str.{bytes_eq}
 use Rattle.std.proofs.lemmas.List.{length-map, length-replicate}
 use Rattle.std.proofs.lemmas.Nat.{pow_pos}
 use Rattle.std.proofs.lemmas.Option.{slice_get_within}
 use Rattle.fir_base.specs.Lists.{In}
 use Rattle.fir_base.specs.Ticks.{FitEach}
 use Rattle.fir_base.proofs.Members.{in_map}
-use Rattle.fir_base.proofs.SameNames.{name_same}
 use Rattle.ver_ast.specs.declared.tree.Verilog.{Verilog}
 use Rattle.ver_ast.specs.Nets.{SizedNet, nets, clocks, names_of, variables, shape}
 use Rattle.ver_ast.specs.Stores.{store_of}
@@ -16,12 +14,13 @@ use Rattle.ver_ast.specs.Valid.{Valid}
 use Rattle.ver_order.specs.working.Laws.{FitNets}
 use Rattle.ver_sim.specs.declared.plan.Plan.{Plan}
 use Rattle.ver_sim.specs.working.Valued.{place_among, valued, env_of}
-use Rattle.ver_sim.specs.working.Blocks.{ClocksShown}
+use Rattle.ver_sim.specs.ClocksShown.{ClocksShown}
 use Rattle.ver_sim.specs.working.Running.{IsPlan, IsRunning}
 use Rattle.ver_sim.specs.working.ShownWords.{words_put}
-use Rattle.ver_sim.specs.working.Start.{clock_numbers, first_values, HasStart}
+use Rattle.ver_sim.specs.working.Start.{clock_numbers, first_values}
+use Rattle.ver_sim.specs.Start.{HasStart}
 use Rattle.ver_sim.proofs.KnownNames.{valued_once}
-use Rattle.ver_sim.proofs.PlacedNames.{place_is}
+use Rattle.ver_sim.proofs.PlacedNames.{place_is, place_left}
 use Rattle.ver_sim.proofs.Keeping.{shown_values, unshown}
 
 numbers_long : (k : ℕ) (cs : List (List ℕ)) → length (clock_numbers k cs) ≡ length cs
@@ -41,15 +40,6 @@ zero_at (suc c) xs (suc i) lt = zero_at c xs i (omega arith)
 behind_zeros : (c : ℕ) (xs : List ℕ) (i : ℕ) → get_or (replicate c 0 ++ xs) (c + i) 0 ≡ get_or xs i 0
 behind_zeros zero xs i = let e : 0 + i ≡ i = omega arith in ap (λ (j : ℕ). get_or xs j 0) e
 behind_zeros (suc c) xs i = let e : suc c + i ≡ suc (c + i) = omega arith in ap (λ (j : ℕ). get_or (0 ∷ (replicate c 0 ++ xs)) j 0) e ∙ behind_zeros c xs i
-
-place_left : (xs ys : List (List ℕ)) (n : List ℕ) → In xs n → place_among (xs ++ ys) n < length xs
-place_left [] ys n m = absurd m
-place_left (x ∷ xs) ys n m = by (bytes_eq x n) refl m (place_left xs ys n)
-  where
-    by : (b : Bool) → bytes_eq x n ≡ b → In (x ∷ xs) n → (In xs n → place_among (xs ++ ys) n < length xs) → cond b 0 (suc (place_among (xs ++ ys) n)) < suc (length xs)
-    by true e i ih = omega arith
-    by false e (inl s) ih = let no-such : true ≡ false = sym (name_same x) ∙ ap (bytes_eq x) s ∙ e in absurd (cc)
-    by false e (inr i) ih = let h = ih i in omega arith
 
 get_right : (xs ys : List (List ℕ)) (i : ℕ) → slice_get (xs ++ ys) (length xs + i) ≡ slice_get ys i
 get_right [] ys i = let e : 0 + i ≡ i = omega arith in ap (slice_get ys) e

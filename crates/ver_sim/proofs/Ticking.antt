@@ -21,7 +21,7 @@ use Rattle.ver_ast.proofs.Processes.{by_kind}
 use Rattle.ver_places.specs.ItemPlaces.{item_place}
 use Rattle.ver_sim.specs.declared.sim.NoValue.{NoValue}
 use Rattle.ver_sim.specs.working.NoValues.{LacksAtRest}
-use Rattle.ver_sim.specs.working.Lacking.{item_lacks, first_from}
+use Rattle.ver_sim.specs.Lacking.{item_lacks, first_from}
 use Rattle.ver_sim.specs.working.NoValues.{no_value_of}
 use Rattle.ver_sim.specs.working.Views.{VSimView, shown_env, shown_outputs, store}
 

@@ -8,7 +8,7 @@ use Rattle.ver_ast.specs.declared.tree.Verilog.{Verilog}
 use Rattle.ver_ast.specs.declared.tree.Item.{Item}
 use Rattle.ver_ast.specs.declared.tree.Item.TheVariants as item
 use Rattle.ver_ast.specs.Nets.{Variable, variables, variable_widths, reg_net, reg_variable, regs, item_array, arrays, shape, input_nets, widths_of, clocks}
-use Rattle.ver_sim.specs.working.TraceShapes.{reg_word, array_word, trace_shape}
+use Rattle.ver_sim.specs.TraceShapes.{reg_word, array_word, trace_shape}
 use Rattle.ver_sim.proofs.PairLists.{flat_map-append}
 
 register_widths : (is : List Item) → state_widths (flat_map reg_word is) ≡ variable_widths (map reg_variable (flat_map reg_net is))
@@ -41,7 +41,7 @@ both_widths v =
 abbrev with_state : Verilog → List ℕ → Shape
 with_state v ws = record { inputs = widths_of (input_nets v); clocks = length (clocks v); state = ws }
 
-plain_shape : (v : Verilog) → plain (trace_shape v) ≡ shape v
+pub plain_shape : (v : Verilog) → plain (trace_shape v) ≡ shape v
 plain_shape v = ap (with_state v) (both_widths v)
 
 pub some_plain : (v : Verilog) (o : Option TraceShape) → IfSome o (λ (s : TraceShape). s ≡ trace_shape v) → IfSome o (λ (s : TraceShape). plain s ≡ shape v)

@@ -1,6 +1,8 @@
 -- The works of right sides, form by form.
-use Rattle.std.proofs.Common.{◌≡◌, ℕ, ◌≤◌, List, sym, ap, ◌∙◌, arith}
+use Rattle.std.proofs.Common.{◌≡◌, ℕ, ◌≤◌, List, ◌++◌, refl, sym, ap, ◌∙◌, inl, inr, ⊎_elim, arith}
 use Rattle.std.specs.Prelude.{Some, true, cond, ◌==◌, slice_get, take, drop}
+use Rattle.fir_base.specs.Lists.{In}
+use Rattle.fir_base.proofs.Members.{in_either}
 use Rattle.fir_bits.specs.Integers.{reading, bits_of, shifted_down}
 use Rattle.ver_ast.specs.declared.tree.Verilog.{Verilog}
 use Rattle.ver_ast.specs.declared.tree.Rhs.TheVariants as rhs
@@ -18,10 +20,11 @@ use Rattle.ver_sim.specs.declared.read.Read.{Read}
 use Rattle.ver_sim.specs.declared.work.Work.TheVariants as work
 use Rattle.ver_sim.specs.working.Valued.{env_of}
 use Rattle.ver_sim.specs.working.FlatStates.{base_of, depth_of}
-use Rattle.ver_sim.specs.working.Operands.{operand_number}
+use Rattle.ver_sim.specs.working.Operands.{operand_number, operand_places}
 use Rattle.ver_sim.specs.working.Reads.{IsReadOf}
 use Rattle.ver_sim.specs.working.Works.{narrow}
 use Rattle.ver_sim.specs.working.WorksOf.{IsWorkOf}
+use Rattle.ver_sim.proofs.ReadPlaces.{operand_reads, pair_reads}
 use Rattle.ver_sim.proofs.WordSpans.{words_are}
 
 narrow_is : (w : ℕ) → w ≤ 128 → narrow w ≡ w
@@ -33,13 +36,17 @@ module _ (v : Verilog) where
   width_read r a h le = ap narrow h.width_is ∙ narrow_is (atom_width (nets v) a) le
 
   pub atom_work : (a : AtomTree) (r : Read) (w : ℕ) → IsReadOf v r a → IsWorkOf v (work.Show r.operand) w (rhs.Atom a)
-  atom_work a r w h = record { same = λ state values sf fit. ap Some (h.operand_is.same values fit) }
+  atom_work a r w h = record {
+    same = λ state values sf fit. ap Some (h.operand_is.same values fit);
+    reads = λ q m. operand_reads v q (rhs.Atom a) a r.operand (inl refl) h.operand_is m;
+  }
 
   pub unary_work : (op : UnaryOp) (a : AtomTree) (r : Read) (w : ℕ) → IsReadOf v r a → atom_width (nets v) a ≤ 128 → IsWorkOf v (work.Unary op r.width r.operand) w (rhs.Unary op a)
   unary_work op a r w h le = record {
     same = λ state values sf fit.
         ap (λ (u : ℕ). Some (unary_value op u (operand_number values r.operand))) (width_read r a h le)
         ∙ ap (λ (x : ℕ). Some (unary_value op (atom_width (nets v) a) x)) (h.operand_is.same values fit);
+    reads = λ q m. operand_reads v q (rhs.Unary op a) a r.operand (inl refl) h.operand_is m;
   }
 
   pub binary_work : (op : BinaryOp) (a b : AtomTree) (r s : Read) (w : ℕ) → IsReadOf v r a → IsReadOf v s b → w ≤ 128
@@ -49,6 +56,7 @@ module _ (v : Verilog) where
         ap (λ (u : ℕ). binary_value op u (operand_number values r.operand) (operand_number values s.operand)) (narrow_is w le)
         ∙ ap (λ (x : ℕ). binary_value op w x (operand_number values s.operand)) (h.operand_is.same values fit)
         ∙ ap (λ (y : ℕ). binary_value op w (atom_value (nets v) (env_of v values) a) y) (k.operand_is.same values fit);
+    reads = λ q m. pair_reads v q (rhs.Binary a op b) a b r.operand s.operand (inl refl) (inr (inl refl)) h.operand_is k.operand_is m;
   }
 
   pub signed_work : (op : SignedOp) (a b : AtomTree) (r s : Read) (w : ℕ) → IsReadOf v r a → IsReadOf v s b → atom_width (nets v) a ≤ 128
@@ -62,6 +70,7 @@ module _ (v : Verilog) where
         ∙ ap (λ (n : ℕ). signed_value op u (reading true u n) (reading true u (operand_number values s.operand))) (h.operand_is.same values fit)
         ∙ ap (λ (n : ℕ). signed_value op u (reading true u x) (reading true u n)) (k.operand_is.same values fit)
         ∙ ap (λ (n : ℕ). signed_value op u (reading true u x) (reading true n y)) alike;
+    reads = λ q m. pair_reads v q (rhs.Signed a op b) a b r.operand s.operand (inl refl) (inr (inl refl)) h.operand_is k.operand_is m;
   }
 
   pub shift_work : (a b : AtomTree) (r s : Read) (w : ℕ) → IsReadOf v r a → IsReadOf v s b → atom_width (nets v) a ≤ 128 → w ≤ 128
@@ -74,6 +83,7 @@ module _ (v : Verilog) where
         ∙ ap (λ (n : ℕ). Some (bits_of w (shifted_down (reading true n (operand_number values r.operand)) (operand_number values s.operand)))) (width_read r a h le)
         ∙ ap (λ (n : ℕ). Some (bits_of w (shifted_down (reading true u n) (operand_number values s.operand)))) (h.operand_is.same values fit)
         ∙ ap (λ (n : ℕ). Some (bits_of w (shifted_down (reading true u x) n))) (k.operand_is.same values fit);
+    reads = λ q m. pair_reads v q (rhs.SignedShift a b) a b r.operand s.operand (inl refl) (inr (inl refl)) h.operand_is k.operand_is m;
   }
 
   pub choose_work : (c a b : AtomTree) (q r s : Read) (w : ℕ) → IsReadOf v q c → IsReadOf v r a → IsReadOf v s b
@@ -83,6 +93,11 @@ module _ (v : Verilog) where
         ap (λ (n : ℕ). Some (cond (n == 1) (operand_number values r.operand) (operand_number values s.operand))) (g.operand_is.same values fit)
         ∙ ap (λ (n : ℕ). Some (cond (atom_value (nets v) (env_of v values) c == 1) n (operand_number values s.operand))) (h.operand_is.same values fit)
         ∙ ap (λ (n : ℕ). Some (cond (atom_value (nets v) (env_of v values) c == 1) (atom_value (nets v) (env_of v values) a) n)) (k.operand_is.same values fit);
+    reads = λ i m. ⊎_elim
+        (λ (j : In (operand_places q.operand) i). operand_reads v i (rhs.Conditional c a b) c q.operand (inl refl) g.operand_is j)
+        (λ (j : In (operand_places r.operand ++ operand_places s.operand) i).
+        pair_reads v i (rhs.Conditional c a b) a b r.operand s.operand (inr (inl refl)) (inr (inr (inl refl))) h.operand_is k.operand_is j)
+        (in_either (operand_places q.operand) (operand_places r.operand ++ operand_places s.operand) i m);
   }
 
   pub word_work : (m : List ℕ) (a : AtomTree) (r : Read) (span : Span) (w : ℕ) → IsReadOf v r a → span ≡ record { base = base_of (variables v) m; depth = depth_of (variables v) m }
@@ -92,4 +107,5 @@ module _ (v : Verilog) where
         ap (λ (s : Span). slice_get (take s.depth (drop s.base state)) (operand_number values r.operand)) e
         ∙ ap (λ (ws : List ℕ). slice_get ws (operand_number values r.operand)) (sym (words_are (variables v) state m))
         ∙ ap (slice_get (store_of (variables v) state m)) (h.operand_is.same values fit);
+    reads = λ q i. operand_reads v q (rhs.Word m a) a r.operand (inl refl) h.operand_is i;
   }

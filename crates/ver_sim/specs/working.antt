@@ -1,5 +1,4 @@
 -- What no clause of `run` reads: nets, words and processes by number, and what the simulator keeps.
-pub mod TraceShapes
 pub mod Valued
 pub mod Pieces
 pub mod Operands
@@ -22,5 +21,5 @@ pub mod WorksOf
 pub mod Start
 pub mod Lacking
 pub mod Checks
-pub mod Rests
+pub mod Orders
 pub mod NoValues

@@ -10,26 +10,27 @@ ghost use Rattle.ver_ast.specs.Valid.{Valid};
 ghost use Rattle.ver_ast.specs.Next.{all_puts, state_after};
 ghost use Rattle.ver_ast.specs.Processes.{processes};
 ghost use Rattle.ver_ast.specs.Settled.{SourcesShown, Rest};
-ghost use Rattle.ver_order.specs.working.Steps.{steps};
-ghost use Rattle.ver_order.specs.working.Edges.{words_shown};
+ghost use Rattle.ver_order.specs.Steps.{steps};
+ghost use Rattle.ver_order.specs.ShownWords.{words_shown};
 ghost use Rattle.ver_order.specs.working.Laws.{ShowValues};
 ghost use Rattle.ver_sim.specs.working.Views.{shown_env, shown_outputs, store, IsTickOf};
-ghost use Rattle.ver_sim.specs.working.Inputs.{HaveInputs, inputs_put};
+ghost use Rattle.ver_sim.specs.working.Inputs.{inputs_put};
+ghost use Rattle.ver_sim.specs.Inputs.{HaveInputs};
 ghost use Rattle.ver_sim.specs.working.Tasks.{IsNotYet};
 ghost use Rattle.ver_sim.specs.working.Edges.{EveryOrderLeaves};
 ghost use Rattle.ver_sim.specs.working.Blocks.{IsRising};
-ghost use Rattle.ver_sim.specs.working.Lacking.{first_from, item_lacks, lacking_place};
+ghost use Rattle.ver_sim.specs.working.Lacking.{lacking_place};
+ghost use Rattle.ver_sim.specs.Lacking.{first_from, item_lacks};
 ghost use Rattle.ver_sim.specs.working.NoValues.{no_value_of, LacksAtRest};
-ghost use Rattle.ver_sim.specs.working.Start.{HasStart};
+ghost use Rattle.ver_sim.specs.Start.{HasStart};
 
 use crate::edge::{take_edges, take_settled_edges};
 use crate::inputs::put_inputs;
 use crate::lacking::first_lacking;
 use crate::outputs::{first_outputs, show_outputs};
 use crate::plan::Plan;
-use crate::rest::settle_to_rest;
 use crate::start::start_values;
-use crate::steps::settle_along;
+use crate::steps::{settle, settle_along};
 use crate::tables::Tables;
 use crate::unsettled::NotYet;
 use fir_base::MemoryOut;
@@ -151,9 +152,9 @@ impl VSim {
         take_settled_edges(&self.plan, tick.clocks(), &mut self.values, &mut self.state)
     }
 
-    /// Takes one tick: lets the inputs have its values, takes rounds of all processes until nothing changes, and takes
-    /// the edge. The outputs are then those of the tick, and the state the one after it. Where an item lacks a value at
-    /// rest, the place of the first is told, and the state is as before.
+    /// Takes one tick: lets the inputs have its values, takes a step of each process behind those that drive what it
+    /// reads, and takes the edge. The outputs are then those of the tick, and the state the one after it. Where an item
+    /// lacks a value at rest, the place of the first is told, and the state is as before.
     pub fn tick(&mut self, tick: &Tick) -> Result<(), NoValue>
         requires { IsTickOf self.old.tree tick.now.tick }
         ensures tree { self.new.tree ≡ self.old.tree }
@@ -184,14 +185,14 @@ impl VSim {
         self.state.as_slice()
     }
 
-    /// Takes rounds of all processes until nothing changes.
+    /// Takes a step of each process, behind those that drive what it reads.
     fn rest(&mut self)
         ensures tree { self.new.tree ≡ self.old.tree }
         ensures valid { Valid self.new.tree }
         ensures state { self.new.state ≡ self.old.state }
         ensures rest { (tick : TickOf) → SourcesShown self.old.tree self.old.state tick (shown_env self.old) → Rest self.new.tree self.new.state tick (shown_env self.new) }
     {
-        settle_to_rest(&self.plan, &self.state, &mut self.values);
+        settle(&self.plan, &self.state, &mut self.values);
         show_outputs(&self.plan, &self.values, &mut self.outputs);
     }
 

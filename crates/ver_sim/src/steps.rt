@@ -19,7 +19,7 @@ fn take_step(task: &Task, state: &[u128], values: &mut [u128])
 }
 
 /// Takes a step of the process of that number; past the last process nothing is done.
-pub fn take_turn(tasks: &[Task], number: u64, state: &[u128], values: &mut [u128])
+fn take_turn(tasks: &[Task], number: u64, state: &[u128], values: &mut [u128])
     ensures { values.new ≡ turn tasks.now state.now values.old number }
 {
     if let Some(task) = tasks.get(number as usize) {
@@ -28,12 +28,24 @@ pub fn take_turn(tasks: &[Task], number: u64, state: &[u128], values: &mut [u128
 }
 
 /// Takes a step of each process of the list, in its order.
-pub fn take_steps(tasks: &[Task], order: &[u64], state: &[u128], values: &mut [u128])
+fn take_steps(tasks: &[Task], order: &[u64], state: &[u128], values: &mut [u128])
     ensures { values.new ≡ turns tasks.now state.now order.now values.old }
 {
     for number in order {
         take_turn(tasks, *number, state, values);
     }
+}
+
+/// Takes a step of each process, in the plan's order.
+pub fn settle(plan: &Plan, state: &Vec<u128>, values: &mut Vec<u128>)
+    ensures { values.new.items ≡ turns plan.now.tasks.items state.now.items plan.now.order.items values.old.items }
+{
+    take_steps(
+        plan.tasks.as_slice(),
+        plan.order.as_slice(),
+        state.as_slice(),
+        values.as_mut_slice(),
+    );
 }
 
 /// Takes these steps, and tells whether each process then shows the value of its right side.

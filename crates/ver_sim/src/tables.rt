@@ -9,7 +9,7 @@ ghost use Rattle.ver_ast.specs.Nets.{nets, clocks, names_of, output_clocks, rese
 ghost use Rattle.ver_ast.specs.Valid.{Valid};
 ghost use Rattle.ver_sim.specs.working.Valued.{valued, place_among};
 ghost use Rattle.ver_sim.specs.working.FlatStates.{base_of, depth_of};
-ghost use Rattle.ver_sim.specs.working.Blocks.{ClocksShown};
+ghost use Rattle.ver_sim.specs.ClocksShown.{ClocksShown};
 ghost use Rattle.ver_sim.specs.working.Names.{IsNumbering};
 ghost use Rattle.ver_sim.specs.working.Tables.{Know};
 

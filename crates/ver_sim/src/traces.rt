@@ -4,8 +4,9 @@ ghost use Rattle.std.specs.Prelude.{◌≡◌, ◌++◌, ◌≤◌, IfOk, IfSome
 ghost use Rattle.trace_text.specs.Shapes.{plain};
 ghost use Rattle.trace_text.specs.working.Shapes.{IsShape};
 ghost use Rattle.ver_ast.specs.Nets.{arrays, clocks, input_nets, widths_of, shape as shape_of_tree};
+ghost use Rattle.ver_ast.specs.Spells.{HasNames};
 ghost use Rattle.ver_ast.specs.Valid.{Valid};
-ghost use Rattle.ver_sim.specs.working.TraceShapes.{array_word, reg_word, trace_shape};
+ghost use Rattle.ver_sim.specs.TraceShapes.{array_word, reg_word, trace_shape};
 
 use fir_base::{Direction, MemoryOut};
 use std::alloc::Global;
@@ -13,13 +14,13 @@ use trace_text::{Shape, StateWord};
 use ver_ast::{Item, Verilog};
 
 /// The shape of the traces of a valid tree: the widths of its inputs in port order, the number of its clocks, and its
-/// registers and then its arrays in text order. None where a name of a register or an array is none that a trace can
-/// have.
+/// registers and then its arrays in text order. None where some name in the tree is not spelled as a name, as can be in
+/// one that no text was read for.
 pub fn shape(alloc: Global, v: &Verilog) -> Result<Option<Shape>, MemoryOut>
     requires { Valid v.now }
     ensures shape { IfOk result (λ o. IfSome o (λ s. s ≡ trace_shape v.now)) }
     ensures plain { IfOk result (λ o. IfSome o (λ s. plain s ≡ shape_of_tree v.now)) }
-    ensures none { result ≡ Ok None → IsShape (trace_shape v.now) → ⊥ }
+    ensures none { result ≡ Ok None → HasNames v.now → ⊥ }
 {
     collected(alloc, v)
 }

@@ -1,14 +1,14 @@
 -- At an edge each block of a clock that rises, and each asynchronous block whose reset is 1, samples once: it reads all that it reads at that moment (IEEE 1364-2005, 9.2.2, 9.7.2).
 -- After all samples each sampled write is made once, those of one block in its order (11.3, 11.4.1); one that is out of range does nothing. Processes may take steps anywhere.
-use Rattle.std.specs.Prelude.{◌≡◌, ℕ, List, [], ◌∷◌, ◌++◌, if◌then◌else◌}
-use Rattle.fir_base.specs.Words.{is_among}
+use Rattle.std.specs.Prelude.{◌≡◌, ℕ, List, [], ◌∷◌, ◌++◌}
 use Rattle.fir_base.specs.Ticks.{Env, Tick}
 use Rattle.ver_ast.specs.declared.tree.Verilog.{Verilog}
-use Rattle.ver_ast.specs.Nets.{nets, plain_regs, names_of, variables, AlwaysBlock}
-use Rattle.ver_ast.specs.Stores.{Store, store_of, state_of, stored}
+use Rattle.ver_ast.specs.Nets.{nets, variables, AlwaysBlock}
+use Rattle.ver_ast.specs.Stores.{Store, store_of, state_of}
 use Rattle.ver_ast.specs.Next.{Put, puts, put_one, acting}
-use Rattle.ver_order.specs.working.Steps.{step}
+use Rattle.ver_order.specs.Steps.{step}
 use Rattle.ver_order.specs.working.Arranged.{IsRearranged, IsInterleaved}
+use Rattle.ver_order.specs.ShownWords.{words_shown}
 
 -- the process of that number takes a step, a block samples, or a write is made
 pub data EdgeEvent : Type 0 where
@@ -21,10 +21,6 @@ pub record EdgeState : Type 0 where
   pub env : Env
   pub store : Store
   pub sampled : List (List Put)
-
--- a register without an asynchronous block shows its stored word at once
-abbrev pub words_shown : Verilog → Store → Env → Env
-words_shown v store env name = if is_among (names_of (plain_regs v)) name then stored store name else env name
 
 abbrev pub after_event : Verilog → EdgeEvent → EdgeState → EdgeState
 after_event v (stepping k) s = record s { env = step v s.store s.env k }

@@ -10,8 +10,9 @@ use Rattle.ver_ast.specs.Stores.{store_of}
 use Rattle.ver_ast.specs.Processes.{Process, processes, target, wanted, given}
 use Rattle.ver_ast.specs.Settled.{SourcesShown, Rest, VSettled}
 use Rattle.ver_ast.specs.Next.{all_puts, state_after, v_next}
-use Rattle.ver_order.specs.working.Steps.{steps}
-use Rattle.ver_order.specs.working.Rounds.{process_count, IsRound, HasRounds, SettlesFirstAfter}
+use Rattle.ver_order.specs.Steps.{steps}
+use Rattle.ver_order.specs.working.Rounds.{IsRound, HasRounds}
+use Rattle.ver_order.specs.Rounds.{process_count, SettlesFirstAfter}
 use Rattle.ver_order.specs.working.Edges.{EdgeEvent, IsEdgeOrder, state_after_events}
 
 -- from any values of the processes' targets, as many rounds as there are processes end at rest

@@ -1,5 +1,5 @@
--- What comes of looking a tree through for faults.
-use Rattle.std.specs.Prelude.{◌≡◌, List, [], Result, Ok, Err}
+-- What comes of reading a text, and of looking its tree through for faults.
+use Rattle.std.specs.Prelude.{◌≡◌, ℕ, List, [], Result, Ok, Err}
 use Rattle.fir_base.specs.declared.refused.Refused.{Refused}
 use Rattle.fir_base.specs.declared.refused.Refused.TheVariants.{Fault, Memory}
 use Rattle.ver_ast.specs.declared.tree.Verilog.{Verilog}
@@ -8,7 +8,13 @@ use Rattle.ver_ast.specs.Valid.{IsOrder}
 use Rattle.ver_fault.specs.declared.fault.VerFault.{VerFault}
 use Rattle.ver_fault.specs.View.{vfault_of}
 use Rattle.ver_check.specs.TreeFaults.{misfits, undriven}
-use Rattle.ver_read.specs.Reads.{IsTreeFault}
+use Rattle.ver_read.specs.Reads.{IsFaultOf, IsTextOf, IsTreeFault}
+
+-- the tree of the text, or its first fault
+abbrev pub Reads : List ℕ → Result Verilog (Refused VerFault) → Type 0
+Reads bytes (Ok v) = IsTextOf bytes v
+Reads bytes (Err (Fault f)) = IsFaultOf bytes (vfault_of f)
+Reads bytes (Err Memory) = Unit {0}
 
 -- a tree without a fault, and an order of its processes; or its first fault
 abbrev pub TreeChecked : Verilog → Result Unit (Refused VerFault) → Type 0

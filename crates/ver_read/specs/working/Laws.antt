@@ -10,7 +10,8 @@ use Rattle.ver_ast.specs.working.Laws.{with_places}
 use Rattle.ver_emit.specs.Layout.{layout}
 use Rattle.ver_fault.specs.declared.fault.VerFault.{VerFault}
 use Rattle.ver_fault.specs.Faults.{VFault}
-use Rattle.ver_read.specs.Reads.{IsTextOf, IsFaultOf, Reads}
+use Rattle.ver_read.specs.Reads.{IsTextOf, IsFaultOf}
+use Rattle.ver_read.specs.working.Checked.{Reads}
 
 -- a text that is refused for a fault spells no valid tree
 abbrev pub RefusedIsNotValid : Type 0

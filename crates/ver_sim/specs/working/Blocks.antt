@@ -1,5 +1,5 @@
 -- Blocks by number, and what they write.
-use Rattle.std.specs.Prelude.{◌≡◌, ℕ, ◌<◌, ◌≤◌, ◌==◌, List, [], ◌∷◌, map, flat_map, length, slice_get, slice_index, if◌then◌else◌, Option, Some, None}
+use Rattle.std.specs.Prelude.{◌≡◌, ℕ, ◌<◌, ◌≤◌, ◌==◌, List, [], ◌∷◌, map, flat_map, length, slice_index, if◌then◌else◌, Option, Some, None}
 use Rattle.fir_base.specs.Lists.{In}
 use Rattle.fir_base.specs.Ticks.{Env, rises}
 use Rattle.ver_ast.specs.declared.tree.Verilog.{Verilog}
@@ -19,6 +19,7 @@ use Rattle.ver_sim.specs.working.Valued.{env_of}
 use Rattle.ver_sim.specs.working.Operands.{operand_number, IsOperandOf}
 use Rattle.ver_sim.specs.working.FlatStates.{base_of, depth_of, flat, FlatPut}
 use Rattle.ver_sim.specs.working.Pairs.{EachPair}
+use Rattle.ver_sim.specs.ClocksShown.{ClocksShown}
 
 -- in order, each number at most those behind it
 abbrev pub IsRising : List ℕ → Type 0
@@ -54,10 +55,6 @@ all_block_puts named values tasks = flat_map (block_puts named values) tasks
 -- what a block of the tree writes, nothing where it does not act
 abbrev pub acted : Verilog → List ℕ → Env → AlwaysBlock → List Put
 acted v named env b = if acts named env b then puts (nets v) env b else []
-
--- each clock shows its number, counted from 0 in port order
-abbrev pub ClocksShown : Verilog → Env → Type 0
-ClocksShown v env = (k : ℕ) (n : List ℕ) → slice_get (clocks v) k ≡ Some n → env n ≡ k
 
 -- the task writes what the block writes
 pub record IsBlockTaskOf (v : Verilog) (t : BlockTask) (b : AlwaysBlock) : Type 0 where

@@ -11,8 +11,9 @@ use Rattle.ver_places.specs.ItemPlaces.{item_place}
 use Rattle.ver_order.specs.working.Laws.{FitNets}
 use Rattle.ver_sim.specs.declared.lacking.Check.{Check}
 use Rattle.ver_sim.specs.working.Valued.{env_of}
-use Rattle.ver_sim.specs.working.Blocks.{ClocksShown}
-use Rattle.ver_sim.specs.working.Lacking.{item_lacks, first_from, lacking_place}
+use Rattle.ver_sim.specs.ClocksShown.{ClocksShown}
+use Rattle.ver_sim.specs.working.Lacking.{lacking_place}
+use Rattle.ver_sim.specs.Lacking.{item_lacks, first_from}
 
 -- values and words that a simulator can have
 pub record CanHave (v : Verilog) (state values : List ℕ) : Type 0 where

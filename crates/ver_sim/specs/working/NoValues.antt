@@ -7,7 +7,7 @@ use Rattle.ver_ast.specs.Settled.{Rest}
 use Rattle.ver_ast.specs.Stores.{store_of}
 use Rattle.ver_places.specs.ItemPlaces.{item_place}
 use Rattle.ver_sim.specs.declared.sim.NoValue.{NoValue}
-use Rattle.ver_sim.specs.working.Lacking.{item_lacks, first_from}
+use Rattle.ver_sim.specs.Lacking.{item_lacks, first_from}
 
 -- the item of that number, counted from 0 in text order
 abbrev pub no_value_of : Verilog → ℕ → NoValue

@@ -15,6 +15,11 @@ abbrev pub piece_number : List ℕ → Piece → ℕ
 piece_number values (piece.Part place low width) = slice_index values place / 2 ^ low % 2 ^ width
 piece_number values (piece.Number number width) = number
 
+-- the places that a piece reads
+abbrev pub piece_places : Piece → List ℕ
+piece_places (piece.Part place low width) = place ∷ []
+piece_places (piece.Number number width) = []
+
 -- the number of the pieces, put behind another
 unfoldable pub pieces_number : List ℕ → List Piece → ℕ → ℕ
 pieces_number values [] before = before

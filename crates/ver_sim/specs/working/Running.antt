@@ -10,13 +10,16 @@ use Rattle.ver_order.specs.working.Laws.{FitNets}
 use Rattle.ver_sim.specs.declared.plan.Plan.{Plan}
 use Rattle.ver_sim.specs.working.Valued.{place_among, valued, env_of}
 use Rattle.ver_sim.specs.working.Tasks.{AreTasks}
-use Rattle.ver_sim.specs.working.Blocks.{AreBlockTasks, ClocksShown}
+use Rattle.ver_sim.specs.working.Orders.{IsTaskOrder}
+use Rattle.ver_sim.specs.working.Blocks.{AreBlockTasks}
+use Rattle.ver_sim.specs.ClocksShown.{ClocksShown}
 use Rattle.ver_sim.specs.working.Checks.{AreChecks}
 use Rattle.ver_sim.specs.working.ShownWords.{AreShown}
 
 -- the plan of a tree
 pub record IsPlan (v : Verilog) (p : Plan) : Type 0 where
   pub tasks_are : AreTasks v p.tasks.items
+  pub order_is : IsTaskOrder p.tasks.items p.order.items
   pub blocks_are : AreBlockTasks v p.blocks.items (blocks v)
   pub shown_are : AreShown v p.shown.items (plain_regs v)
   pub inputs_are : p.inputs.items ≡ map (place_among (valued v)) (names_of (input_nets v))

@@ -1,11 +1,7 @@
--- The values before the first tick.
-use Rattle.std.specs.Prelude.{◌≡◌, ℕ, ◌+◌, List, [], ◌∷◌, ◌++◌, length, replicate}
-use Rattle.fir_base.specs.Lists.{In}
-use Rattle.fir_base.specs.Ticks.{Env}
+-- The values before the first tick, by number.
+use Rattle.std.specs.Prelude.{ℕ, ◌+◌, List, [], ◌∷◌, ◌++◌, length, replicate}
 use Rattle.ver_ast.specs.declared.tree.Verilog.{Verilog}
-use Rattle.ver_ast.specs.Nets.{SizedNet, nets, clocks, plain_regs, names_of}
-use Rattle.ver_ast.specs.Stores.{Store, stored}
-use Rattle.ver_sim.specs.working.Blocks.{ClocksShown}
+use Rattle.ver_ast.specs.Nets.{nets, clocks}
 
 -- the numbers of clocks, counted on
 abbrev pub clock_numbers : ℕ → List (List ℕ) → List ℕ
@@ -14,9 +10,3 @@ clock_numbers k (c ∷ cs) = k ∷ clock_numbers (k + 1) cs
 
 abbrev pub first_values : Verilog → List ℕ
 first_values v = replicate (length (nets v)) 0 ++ clock_numbers 0 (clocks v)
-
--- nets are 0, but registers without an asynchronous block show their words, and clocks their numbers
-pub record HasStart (v : Verilog) (store : Store) (env : Env) : Type 0 where
-  pub zeros : (n : List ℕ) → In (names_of (nets v)) n → (In (names_of (plain_regs v)) n → ⊥) → env n ≡ 0
-  pub words_shown : (r : SizedNet) → In (plain_regs v) r → env r.0 ≡ stored store r.0
-  pub clocks_shown : ClocksShown v env

@@ -1,7 +1,7 @@
 use Rattle.std.proofs.Common.{◌≡◌, ◌≤◌, ◌++◌, flat_map, drop}
 use Rattle.std.specs.Prelude.{sum_by}
 use Rattle.ver_ast.specs.Nets.{item_array}
-use Rattle.ver_sim.specs.working.TraceShapes.{array_word}
+use Rattle.ver_sim.specs.TraceShapes.{array_word}
 use Rattle.ver_sim.proofs.traces.put_array_words.Given as goal
 
 abbrev pub invariant-loop-item : goal.invariant-loop-item

@@ -1,5 +1,5 @@
 use Rattle.std.proofs.Common.{◌≡◌, ◌++◌, flat_map, drop}
-use Rattle.ver_sim.specs.working.TraceShapes.{reg_word}
+use Rattle.ver_sim.specs.TraceShapes.{reg_word}
 use Rattle.ver_sim.proofs.traces.put_register_words.Given as goal
 
 abbrev pub invariant-loop-item : goal.invariant-loop-item

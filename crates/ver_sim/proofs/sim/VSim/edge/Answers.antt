@@ -4,7 +4,7 @@ use Rattle.std.proofs.lemmas.Result.{IfOk-weaker, IfErr-weaker}
 use Rattle.ver_ast.specs.Nets.{names_of, output_nets, variables}
 use Rattle.ver_ast.specs.Next.{all_puts, state_after}
 use Rattle.ver_ast.specs.Stores.{store_of}
-use Rattle.ver_order.specs.working.Edges.{words_shown}
+use Rattle.ver_order.specs.ShownWords.{words_shown}
 use Rattle.ver_order.specs.working.Laws.{ShowValues}
 use Rattle.ver_sim.specs.working.Valued.{env_of}
 use Rattle.ver_sim.specs.working.FlatStates.{flat_all}

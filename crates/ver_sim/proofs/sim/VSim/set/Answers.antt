@@ -1,6 +1,7 @@
 use Rattle.std.proofs.Common.{◌≡◌, List, ℕ, map, ap, sym, ◌∙◌, subst}
 use Rattle.ver_ast.specs.Nets.{names_of, output_nets}
-use Rattle.ver_sim.specs.working.Inputs.{inputs_put, HaveInputs}
+use Rattle.ver_sim.specs.working.Inputs.{inputs_put}
+use Rattle.ver_sim.specs.Inputs.{HaveInputs}
 use Rattle.ver_sim.specs.working.Valued.{env_of}
 use Rattle.ver_sim.specs.working.Views.{VSimView, shown_outputs, IsTickOf}
 use Rattle.ver_sim.proofs.OutputValues.{set_outputs}

@@ -3,7 +3,7 @@ use Rattle.std.proofs.lemmas.Result.{IfOk-weaker, IfErr-weaker}
 use Rattle.ver_ast.specs.Nets.{variables}
 use Rattle.ver_ast.specs.Stores.{store_of}
 use Rattle.ver_order.specs.working.Laws.{ShowValues}
-use Rattle.ver_order.specs.working.Steps.{steps}
+use Rattle.ver_order.specs.Steps.{steps}
 use Rattle.ver_sim.specs.working.Tasks.{IsNotYet}
 use Rattle.ver_sim.specs.working.Turns.{ShowFirst, IsFirstUnsettled}
 use Rattle.ver_sim.specs.working.Valued.{env_of}
