@@ -11,8 +11,7 @@ file reads comes before it.
     definitions.py --write     puts it into docs/DEFINITIONS.md, between the two lines that mark its
                                place
     definitions.py --check     fails where the list there is another, where a definition in some
-                               specs/ is read by no clause, and where one of a specs/working/ is;
-                               here what a command to come will call counts beside `run`
+                               specs/ is read by no clause, and where one of a specs/working/ is
     definitions.py --why NAME  prints the shortest way from `run` to each definition of that name
     definitions.py --below NAME..
                                counts what is to be read for these, with all that they read
@@ -35,38 +34,36 @@ PAGE = ROOT / "docs/DEFINITIONS.md"
 BEGIN = "<!-- definitions: made by checks/definitions.py -->\n"
 END = "<!-- end of definitions -->\n"
 RUN = CRATES / "fir_driver/src/program.rt"
-# What a command to come will call, whose contracts `run` will read then; and what it will read beside.
-TO_COME = {"ver_read/src/text.rt": "read_verilog", "ver_fault/src/line.rt": "put_line"}
-DEFINITIONS_TO_COME = [
-    ("ver_order/specs/Rounds.antt", "SettlesFirstAfter"),
-    ("ver_order/specs/Rounds.antt", "process_count"),
-    ("ver_order/specs/ShownWords.antt", "words_shown"),
-    ("ver_sim/specs/Inputs.antt", "HaveInputs"),
-    ("ver_sim/specs/Lacking.antt", "first_from"),
-    ("ver_sim/specs/Lacking.antt", "item_lacks"),
-    ("ver_sim/specs/Start.antt", "HasStart"),
-    ("ver_sim/specs/TraceShapes.antt", "trace_shape"),
-]
 
 # What each chapter says, by the first crate of its subject in crates.txt.
 PURPOSES = {
     "fir_base": "Bytes, lists, digits and ticks; the primitive operations, their types and values.",
     "fir_io": "What was read of a file and put to an output.",
     "ver_words": "Which bytes spell which Verilog tree, which are valid, and what a tree allows.",
+    "ver_places": "Where the items of a tree stand in its text.",
+    "ver_order": "The steps of processes, and the least number of rounds that settles them.",
+    "ver_fault": "The first fault of a Verilog text, and its line.",
     "trace_text": "Which bytes spell which trace, the fault of a line, and the lines that are put.",
+    "ver_sim": "Values before the first tick, items that lack a value, and the shape of a tree's traces.",
+    "ver_runner": "The order of the processes for a number, and the lines of a tree on a trace.",
+    "ver_command": "What `vsim` says of a text.",
+    "fir_cli": "What each status says of the files and of both outputs, and of a simulation.",
     "fir_ast": "Which bytes spell which circuit, the first fault of a text, and lines of faults.",
     "fir_pass": "The groups of faults, of which the first that shows one is told; and meanings.",
     "fir_meaning": "Which faults a circuit shows, group by group, and what a circuit allows.",
     "fir_net": "The names of ports and registers in Verilog, and the rows in which these stand.",
     "fir_flatten": "The rows of a circuit, and which of its registers take values.",
     "ver_build": "How the tree that is written is named and arranged.",
-    "fir_outcome": "What each status says of the text, of a trace, and of both outputs.",
+    "fir_outcome": "What comes of the text of a circuit, and what is printed of its runs.",
     "fir_words": "What the words ask for, as clap reads them, and what is said of each command.",
 }
 
-# What nothing reads any more in a crate that stands below nearly all others, each of which would be
-# proved anew for it alone; it goes with the next change of that crate.
-LEFT_OVER = {("fir_meaning/specs/Lack.antt", "Lack"), ("fir_meaning/specs/Lack.antt", "lack")}
+# What no clause reads in a crate that stands below many others, each of which would be proved anew for
+# it alone; it goes, or to specs/working/, with the next change of that crate.
+LEFT_OVER = {
+    ("fir_meaning/specs/Lack.antt", "Lack"), ("fir_meaning/specs/Lack.antt", "lack"),
+    *(("ver_fault/specs/View.antt", name) for name in ("vcode_of", "vfault_place", "vevidence", "vfault_of")),
+}
 
 
 def read_by(node):
@@ -90,14 +87,6 @@ def starts():
         if re.search(rf"\b{bound}\.", clauses)
     ]
     return found + list(named_by(text_of(RUN), clauses))
-
-
-def to_come():
-    """What the clauses of the calls name that a command to come will make."""
-    for shown_file, name in TO_COME.items():
-        file = CRATES / shown_file
-        yield from named_by(text_of(file), clauses_of(file, name)[1])
-    yield from ((CRATES / shown_file, name) for shown_file, name in DEFINITIONS_TO_COME)
 
 
 def reached(begin):
@@ -243,10 +232,9 @@ def crate_of(file):
 
 def out_of_place(reads):
     """What is wrong with where definitions stand."""
-    all_reads = {**reads, **reached(to_come())[0]}
     for file in sorted(CRATES.glob("*/specs/**/*.antt")):
         for it in spec_file(file).definitions if not is_working(file) else ():
-            if (file, it.names[0]) not in all_reads and (shown(file), it.names[0]) not in LEFT_OVER:
+            if (file, it.names[0]) not in reads and (shown(file), it.names[0]) not in LEFT_OVER:
                 yield f"{shown(file)}: {', '.join(it.names)}: read by no clause of run"
     for file, name in sorted(reads):
         if is_working(file):

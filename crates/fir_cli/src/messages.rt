@@ -2,21 +2,19 @@
 
 ghost use Rattle.std.specs.Prelude.{◌≡◌, ◌++◌, IfOk, List, ℕ, codes};
 ghost use Rattle.fir_base.specs.Ticks.{Tick};
-ghost use Rattle.fir_ast.specs.Faults.{fault_line};
-ghost use Rattle.fir_ast.specs.working.CodeFaults.{fault_of};
 ghost use Rattle.fir_io.specs.Ports.{SinkSeen};
-ghost use Rattle.fir_outcome.specs.declared.status.Status.TheVariants as status;
+ghost use Rattle.fir_cli.specs.declared.status.Status.TheVariants as status;
 ghost use Rattle.trace_text.specs.Shapes.{TraceShape};
 ghost use Rattle.trace_text.specs.BadLine.{BadLine};
 ghost use Rattle.trace_text.specs.FaultTexts.{fault_text};
+ghost use Rattle.trace_lines.specs.Saying.{lack_line};
 ghost use Rattle.fir_cli.specs.working.Endings.{Said, Complained, Untaken};
 
-use fir_ast::FirFault;
-use fir_base::MemoryOut;
-use fir_fault_text::put_fault_line;
+use crate::status::Status;
+use fir_base::{MemoryOut, put_decimal};
 use fir_io::{FileFault, PutFault, Sink};
-use fir_outcome::Status;
 use std::alloc::Global;
+use trace_lines::Lack;
 use trace_text::{TraceFault, bad_line};
 
 pub const USAGE_LINE: &[u8] =
@@ -63,17 +61,6 @@ fn line_of(alloc: Global, words: &[u8], name: &str) -> Result<Vec<u8>, MemoryOut
     Ok(line)
 }
 
-/// Puts the line of the fault of a text, and ends with `Refused` where that succeeds.
-pub fn say_fault<T: Sink>(alloc: Global, err: &mut T, fault: &FirFault) -> Status
-    ensures { Complained (fault_line (fault_of fault.now)) status.Refused (T.seen err.old) (T.seen err.new) result }
-{
-    let mut line = Vec::new(alloc);
-    match put_fault_line(fault, alloc, &mut line) {
-        Ok(()) => say(err, line.as_slice(), Status::Refused),
-        Err(MemoryOut) => say(err, MEMORY_LINE, Status::NoMemory),
-    }
-}
-
 /// Puts the line of the bad line of a trace, and ends with `BadTrace` where that succeeds.
 pub fn say_bad_line<T: Sink>(alloc: Global, err: &mut T, trace: &[u8], fault: &TraceFault) -> Status
     ensures { (s : TraceShape) (init : List ℕ) (ticks : List Tick) (bad : BadLine trace.now s init ticks fault.now) → Complained (fault_text fault.now bad.bad) status.BadTrace (T.seen err.old) (T.seen err.new) result }
@@ -83,6 +70,30 @@ pub fn say_bad_line<T: Sink>(alloc: Global, err: &mut T, trace: &[u8], fault: &T
         Ok(()) => say(err, line.as_slice(), Status::BadTrace),
         Err(MemoryOut) => say(err, MEMORY_LINE, Status::NoMemory),
     }
+}
+
+/// Puts the line of a tick at which an item lacks a value, and ends with the status where that succeeds.
+pub fn say_lack<T: Sink>(alloc: Global, err: &mut T, lack: Lack, due: Status) -> Status
+    ensures { Complained (lack_line lack) due (T.seen err.old) (T.seen err.new) result }
+{
+    match line_of_lack(alloc, lack) {
+        Ok(line) => say(err, line.as_slice(), due),
+        Err(MemoryOut) => say(err, MEMORY_LINE, Status::NoMemory),
+    }
+}
+
+fn line_of_lack(alloc: Global, lack: Lack) -> Result<Vec<u8>, MemoryOut>
+    ensures { IfOk result (λ line. line.items ≡ lack_line lack) }
+{
+    let mut line = Vec::new(alloc);
+    line.extend_from_slice(b"V09 ")?;
+    put_decimal(&mut line, u128::from(lack.line))?;
+    line.extend_from_slice(b":")?;
+    put_decimal(&mut line, u128::from(lack.col))?;
+    line.extend_from_slice(b" tick ")?;
+    put_decimal(&mut line, u128::from(lack.tick))?;
+    line.extend_from_slice(b"\n")?;
+    Ok(line)
 }
 
 /// Says why a file was not read.

@@ -1,5 +1,7 @@
 pub mod Refused
 pub mod TextEnded
 pub mod TextsComplete
-pub mod SimulationEnded
-pub mod TraceEnded
+pub mod Printed
+pub mod SimRan
+pub mod SimMade
+pub mod SimLaws

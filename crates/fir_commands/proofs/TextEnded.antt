@@ -4,15 +4,16 @@ use Rattle.fir_io.specs.declared.ports.FileFault.{FileFault}
 use Rattle.fir_io.specs.declared.ports.FileFault.TheVariants as file
 use Rattle.fir_io.specs.Ports.{FilesSeen, SinkSeen, Rose, AtLeast, Grew}
 use Rattle.fir_io.specs.working.Ports.{ReadShows}
-use Rattle.fir_outcome.specs.declared.status.Status.{Status}
-use Rattle.fir_outcome.specs.declared.status.Status.TheVariants.{Done, Refused, Usage, Unread, Unwritten, NoMemory, BadTrace, TooLong}
-use Rattle.fir_outcome.specs.Messages.{unread_line, too_long_line, memory_line}
-use Rattle.fir_outcome.specs.Outside.{Outside, outside, IsRead, code, limit}
+use Rattle.fir_cli.specs.declared.status.Status.{Status}
+use Rattle.fir_cli.specs.declared.status.Status.TheVariants.{Done, Refused, Usage, Unread, Unwritten, NoMemory, BadTrace, BadVerilog, TooLong}
+use Rattle.fir_cli.specs.Messages.{unread_line, too_long_line, memory_line}
+use Rattle.fir_cli.specs.Outside.{Outside, outside, IsRead, code, limit}
 use Rattle.fir_commands.specs.TextCommands.{Due, PutsText, TextMeaning}
 use Rattle.fir_commands.specs.TextAnswers.{TextAnswers, TextComplete}
 use Rattle.fir_cli.specs.working.Endings.{Said, Complained, Untaken}
 use Rattle.fir_commands.specs.working.TextEndings.{TextPut}
-use Rattle.fir_runner.proofs.Told.{kept_same, IsTooLong, not_short, read_is, not_too_much}
+use Rattle.trace_lines.proofs.Kept.{kept_same}
+use Rattle.fir_cli.proofs.Told.{IsTooLong, not_short, read_is, not_too_much}
 
 pub refused_said : (k : TextMeaning) (bytes line : List ℕ) (out err err' : SinkSeen) (s : Status) → k.refuses bytes line → Said line Refused err err' s → TextPut k bytes out out err err' s
 refused_said k bytes line out err err' s why (inl p) = subst (TextPut k bytes out out err err') (sym p.0) (line, why, refl, p.1)
@@ -64,6 +65,7 @@ text_ended k name files files' out out' err err' bytes Usage read h = absurd h
 text_ended k name files files' out out' err err' bytes Unread read h = absurd h
 text_ended k name files files' out out' err err' bytes TooLong read h = absurd h
 text_ended k name files files' out out' err err' bytes BadTrace read h = absurd h
+text_ended k name files files' out out' err err' bytes BadVerilog read h = absurd h
 text_ended k name files files' out out' err err' bytes Unwritten read (inl h) =
     inl (record { read = bytes; written = h.0; is_read = read; writes = h.1; front = h.3 }, h.2, h.4)
 text_ended k name files files' out out' err err' bytes Unwritten read (inr (kept, rose, inl front)) =
@@ -112,3 +114,4 @@ module _ (k : TextMeaning) (taken : (bytes text : List ℕ) → k.writes bytes t
   text_complete name before after NoMemory h not_memory none_failed = absurd (not_memory refl)
   text_complete name before after TooLong h not_memory none_failed = too_long_answers k name before h.1.1
   text_complete name before after BadTrace h not_memory none_failed = absurd h.1
+  text_complete name before after BadVerilog h not_memory none_failed = absurd h.1

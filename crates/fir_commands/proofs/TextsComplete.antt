@@ -1,8 +1,8 @@
 -- What is emitted for, or counted, is taken, and what is refused is not.
 use Rattle.std.proofs.Common.{ℕ, List}
 use Rattle.fir_parse.specs.working.Laws.{SpellsOneTree, HasTreeOrFault}
-use Rattle.fir_outcome.specs.declared.status.Status.{Status}
-use Rattle.fir_outcome.specs.Outside.{Outside, code}
+use Rattle.fir_cli.specs.declared.status.Status.{Status}
+use Rattle.fir_cli.specs.Outside.{Outside, code}
 use Rattle.fir_commands.specs.TextCommands.{PutsText}
 use Rattle.fir_commands.specs.TextAnswers.{TextComplete}
 use Rattle.fir_commands.specs.Check.{check_meaning}

@@ -2,5 +2,5 @@ pub mod TextCommands
 pub mod TextAnswers
 pub mod Emit
 pub mod Check
-pub mod Simulates
+pub mod Sim
 pub mod working

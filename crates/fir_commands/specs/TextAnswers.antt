@@ -1,6 +1,6 @@
 -- Which status a command that writes one text of one file ends with, where memory is there and no read or write fails.
 use Rattle.std.specs.Prelude.{◌≡◌, ◌≢◌, ℕ, List}
-use Rattle.fir_outcome.specs.Outside.{Outside, NoneFailed, Tells, TellsTooMuch}
+use Rattle.fir_cli.specs.Outside.{Outside, NoneFailed, Tells, TellsTooMuch}
 use Rattle.fir_commands.specs.TextCommands.{TextMeaning}
 
 pub record TextAnswers (k : TextMeaning) (name : List ℕ) (before : Outside) (answer : ℕ) : Type 0 where

@@ -1,11 +1,11 @@
 -- What a command does that reads one file and writes one text of it: each status, with its cause and with what stands on the outputs.
 -- The file is read whole, and its bytes are refused by a line, or a text is written.
 use Rattle.std.specs.Prelude.{◌≡◌, ℕ, ◌+◌, ◌<◌, List, length, IfSome, ◌⊎◌}
-use Rattle.fir_io.specs.Ports.{Rose, AtLeast, Grew}
-use Rattle.fir_outcome.specs.declared.status.Status.{Status}
-use Rattle.fir_outcome.specs.declared.status.Status.TheVariants as status
-use Rattle.fir_outcome.specs.Messages.{unread_line, too_long_line, memory_line}
-use Rattle.fir_outcome.specs.Outside.{limit, Outside, IsRead, Kept, GrewByFront, OutFailed, ErrFailed, MemoryFailed}
+use Rattle.fir_io.specs.Ports.{Rose, AtLeast, Grew, Kept, GrewByFront}
+use Rattle.fir_cli.specs.declared.status.Status.{Status}
+use Rattle.fir_cli.specs.declared.status.Status.TheVariants as status
+use Rattle.fir_cli.specs.Messages.{unread_line, too_long_line, memory_line}
+use Rattle.fir_cli.specs.Outside.{limit, Outside, IsRead, OutFailed, ErrFailed, MemoryFailed}
 
 -- what such a command says of bytes: which text it writes of them, which line refuses them, and whether it takes them
 pub record TextMeaning : Type 1 where

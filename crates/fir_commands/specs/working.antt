@@ -1,3 +1,4 @@
 -- What no clause of `run` reads: views of the code, its tables and its walks.
 pub mod TextEndings
-pub mod SimulationEndings
+pub mod SimNets
+pub mod Refusing

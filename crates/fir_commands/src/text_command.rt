@@ -2,15 +2,15 @@
 //! writes of the bytes, and why it refuses them.
 
 ghost use Rattle.std.specs.Prelude.{◌≤◌, IsTrue, length};
-ghost use Rattle.fir_outcome.specs.Outside.{outside};
+ghost use Rattle.fir_cli.specs.Outside.{outside};
 ghost use Rattle.fir_commands.specs.TextCommands.{PutsText};
 ghost use Rattle.fir_commands.specs.working.TextEndings.{IsTextOf, TextPut, Written};
 
+use crate::refusal::say_fault;
 use fir_ast::FirFault;
 use fir_base::Refused;
-use fir_cli::{LIMIT, MEMORY_LINE, UNWRITTEN_LINE, say, say_fault, say_unread};
+use fir_cli::{LIMIT, MEMORY_LINE, Status, UNWRITTEN_LINE, say, say_unread};
 use fir_io::{Files, PutFault, Sink};
-use fir_outcome::Status;
 use std::alloc::Global;
 
 /// A command that writes one text of the bytes of one file.

@@ -1,2 +1,3 @@
-pub mod SimulationComplete
+pub mod EmittedPrinted
+pub mod Answered
 pub mod WordsEnded

@@ -1,2 +1,2 @@
-pub mod SimulationAnswers
+pub mod Emitted
 pub mod Program

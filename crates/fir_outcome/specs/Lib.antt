@@ -1,11 +1,9 @@
 pub mod Runs
 pub mod Sources
 pub mod Compiles
-pub mod Messages
 pub mod CircuitFaults
 pub mod Emits
 pub mod Checks
 pub mod Refusals
-pub mod Outside
 pub mod Traces
 pub mod Simulations

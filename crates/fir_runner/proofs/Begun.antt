@@ -1,20 +1,19 @@
 -- How a simulation begins: with the state that the init lines give, or not at all where one of them is bad.
-use Rattle.std.proofs.Common.{◌≡◌, ℕ, List, [], Bool, refl, Err}
+use Rattle.std.proofs.Common.{◌≡◌, ℕ, List, [], refl, Err}
 use Rattle.fir_base.specs.declared.refused.Refused.{Refused}
 use Rattle.fir_base.specs.declared.refused.Refused.TheVariants.{Fault, Memory}
-use Rattle.fir_net.specs.declared.net.FlatNet.{FlatNet}
 use Rattle.trace_text.specs.declared.fault.TraceFault.{TraceFault}
-use Rattle.trace_text.specs.Shapes.{TraceShape}
 use Rattle.trace_text.specs.working.Readings.{InitsRead, ReadsInit}
 use Rattle.trace_text.specs.working.Steps.{ReadsInSteps}
 use Rattle.trace_text.specs.RunLines.{run_text}
+use Rattle.trace_lines.specs.Runs.{last_state}
 use Rattle.fir_tick.specs.working.Views.{numbers}
 use Rattle.fir_runner.specs.declared.runner.Runner.{Runner}
-use Rattle.fir_runner.specs.working.Running.{IsRunning, Begins, last_state}
+use Rattle.fir_runner.specs.working.Running.{SimulatedNet, IsRunning, Begins}
 
-pub begun : (trace : List ℕ) (r : Runner) (init : List ℕ) → ReadsInSteps trace r.shape → InitsRead trace r.shape init r.at → numbers r.sim.state ≡ init → (with_state : Bool) → IsRunning trace with_state r []
+pub begun : (trace : List ℕ) (r : Runner) (init : List ℕ) → ReadsInSteps trace r.shape → InitsRead trace r.shape init r.at → numbers r.sim.state ≡ init → IsRunning trace r []
 unfolding last_state run_text
-begun trace r init steps read state with_state = record {
+begun trace r init steps read state = record {
   init = init;
   ticks = [];
   shown = [];
@@ -24,7 +23,6 @@ begun trace r init steps read state with_state = record {
   lines = refl;
 }
 
-pub not_begun : (trace : List ℕ) (net : FlatNet) (s : TraceShape) → ReadsInSteps trace s → (refused : Refused TraceFault) → ReadsInit trace s (Err refused) → (with_state : Bool)
-    → Begins trace net s with_state (Err refused)
-not_begun trace net s steps (Fault fault) bad with_state = steps.init_is_bad fault bad
-not_begun trace net s steps Memory bad with_state = tt
+pub not_begun : (trace : List ℕ) (a : SimulatedNet) → ReadsInSteps trace a.shape → (refused : Refused TraceFault) → ReadsInit trace a.shape (Err refused) → Begins trace a (Err refused)
+not_begun trace a steps (Fault fault) bad = steps.init_is_bad fault bad
+not_begun trace a steps Memory bad = tt

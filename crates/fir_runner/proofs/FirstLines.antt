@@ -8,14 +8,15 @@ use Rattle.fir_meaning.specs.SourceDesigns.{SourceDesign}
 use Rattle.trace_text.specs.Shapes.{TraceShape}
 use Rattle.trace_text.specs.TraceSpells.{TraceSpells}
 use Rattle.trace_text.specs.working.Fronts.{FrontLinesBegin, Says}
-use Rattle.fir_outcome.specs.Simulations.{Prints, PrintsAll, PrintsFront, PrintsRun, SaysBadly}
+use Rattle.trace_lines.specs.Saying.{Saying, SaysBadly, SaysFront, PrintsAll}
+use Rattle.fir_outcome.specs.Simulations.{Prints, PrintsRun}
 use Rattle.fir_outcome.specs.Sources.{output_widths}
 use Rattle.fir_outcome.specs.Traces.{IsTraceShape}
 use Rattle.fir_runner.specs.working.Laws.{FrontsBegin}
 use Rattle.fir_runner.proofs.TraceShapes.{one_shape}
 
 -- what is said may be said otherwise
-said_so : (text : List ℕ) (with_state : Bool) (A B : TraceShape → List ℕ → List Tick → Type 0) (printed : List ℕ)
+said_so : (text : List ℕ) (with_state : Bool) (A B : Saying) (printed : List ℕ)
     → ((s : TraceShape) (init : List ℕ) (ticks : List Tick) → A s init ticks → B s init ticks) → Prints text with_state A printed
     → Prints text with_state B printed
 said_so text with_state A B printed h p = record {
@@ -33,12 +34,13 @@ said_so text with_state A B printed h p = record {
   prints = p.prints;
 }
 
-all_said : (text trace : List ℕ) (with_state : Bool) (all : List ℕ) → PrintsAll text trace with_state all → Prints text with_state (Says trace) all
+all_said : (text trace : List ℕ) (with_state : Bool) (all : List ℕ) → PrintsAll (Prints text with_state) (λ line lines. ⊥) trace all → Prints text with_state (Says trace) all
 all_said text trace with_state all (inl p) = said_so text with_state (TraceSpells trace) (Says trace) all (λ s init ticks t. inl t) p
-all_said text trace with_state all (inr (line, p)) = said_so text with_state (SaysBadly trace line) (Says trace) all (λ s init ticks b. inr (b.0, b.1)) p
+all_said text trace with_state all (inr (inl (line, p))) = said_so text with_state (SaysBadly trace line) (Says trace) all (λ s init ticks b. inr (b.0, b.1)) p
+all_said text trace with_state all (inr (inr none)) = absurd none.1
 
 module _ (law : (t : SourceDesign) → FrontLinesBegin (Allows t)) (text trace : List ℕ) (with_state : Bool) (printed all : List ℕ)
-    (p : PrintsFront text trace with_state printed) (q : Prints text with_state (Says trace) all) where
+    (p : Prints text with_state (SaysFront trace) printed) (q : Prints text with_state (Says trace) all) where
   same_circuit : q.circuit ≡ p.circuit
   same_circuit = p.only_circuit q.circuit q.taken.spelled
 

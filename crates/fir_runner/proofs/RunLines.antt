@@ -1,36 +1,13 @@
--- A run and its lines grow tick by tick.
-use Rattle.std.proofs.Common.{◌≡◌, ℕ, List, [], ◌∷◌, ◌++◌, Bool, Option, refl, sym, ap, ◌∙◌}
-use Rattle.std.proofs.lemmas.List.{append-nil, append_assoc}
-use Rattle.fir_base.specs.Ticks.{Tick, TickResult, Allowance, IsRun}
+-- What a tick shows, and values as numbers at widths.
+use Rattle.std.proofs.Common.{◌≡◌, ℕ, List, [], ◌∷◌, Option, refl, ap}
+use Rattle.fir_base.specs.Ticks.{TickResult}
 use Rattle.fir_bits.specs.Values.{BitVector}
-use Rattle.trace_text.specs.RunLines.{with_widths, shown_text, run_text}
+use Rattle.trace_text.specs.RunLines.{with_widths}
 use Rattle.fir_tick.specs.working.Views.{numbers, widths}
-use Rattle.fir_runner.specs.working.Running.{last_state}
 
 -- what a tick shows
 abbrev pub shows : List ℕ → List (Option ℕ) → List ℕ → TickResult
 shows outputs clocks state = record { outputs = outputs; clocks = clocks; state = state }
-
-module _ (allows : Allowance) (tick : Tick) (last : TickResult) where
-  pub run_more : (init : List ℕ) (ticks : List Tick) (shown : List TickResult) → IsRun allows init ticks shown → allows (last_state init shown) tick last.outputs last.clocks last.state → IsRun allows init (ticks ++ tick ∷ []) (shown ++ last ∷ [])
-  unfolding last_state
-  run_more init [] [] run here = (here, tt)
-  run_more init [] (s ∷ shown) run here = absurd run
-  run_more init (t ∷ ticks) [] run here = absurd run
-  run_more init (t ∷ ticks) (s ∷ shown) run here = (run.0, run_more s.state ticks shown run.1 here)
-
-pub last_of : (init : List ℕ) (shown : List TickResult) (last : TickResult) → last_state init (shown ++ last ∷ []) ≡ last.state
-unfolding last_state
-last_of init [] last = refl
-last_of init (s ∷ shown) last = last_of s.state shown last
-
-module _ (outputs state : List ℕ) (with_state : Bool) (last : TickResult) where
-  pub text_more : (shown : List TickResult) → run_text outputs state with_state (shown ++ last ∷ []) ≡ run_text outputs state with_state shown ++ shown_text outputs state with_state last
-  unfolding run_text
-  text_more [] = append-nil (shown_text outputs state with_state last)
-  text_more (s ∷ shown) =
-      ap (λ rest. shown_text outputs state with_state s ++ rest) (text_more shown)
-      ∙ sym (append_assoc (shown_text outputs state with_state s) (run_text outputs state with_state shown) (shown_text outputs state with_state last))
 
 -- values are their numbers at their widths
 pub at_widths : (vs : List BitVector) → with_widths (widths vs) (numbers vs) ≡ vs

@@ -1,4 +1,3 @@
 -- What no clause of `run` reads: contracts between layers, laws, views of the code and its states.
 pub mod Running
-pub mod Lined
 pub mod Laws

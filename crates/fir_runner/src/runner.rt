@@ -7,7 +7,7 @@ ghost use Rattle.fir_net.specs.working.Settled.{shape as shape_of_net};
 ghost use Rattle.trace_text.specs.RunLines.{with_widths};
 ghost use Rattle.trace_text.specs.Shapes.{plain};
 ghost use Rattle.fir_tick.specs.working.Views.{numbers};
-ghost use Rattle.fir_runner.specs.working.Running.{IsReady, IsRunning, Stays, Steps, Begins};
+ghost use Rattle.fir_runner.specs.working.Running.{Begins};
 
 use fir_base::Refused;
 use fir_bits::Bits;
@@ -15,14 +15,17 @@ use fir_loop::Order;
 use fir_net::FlatNet;
 use fir_sim::Sim;
 use std::alloc::Global;
+use trace_lines::{Simulation, Stop};
 use trace_text::laws::trace_reads_in_steps;
 use trace_text::{Shape, Tick, TraceFault, next_tick, read_init, write_line};
 
-/// A simulator, the shape of its traces, room for a tick, and the place behind the lines that were read.
+/// A simulator, the shape of its traces, whether the state is shown, room for a tick, and the place behind the lines
+/// that were read.
 #[derive(Drop)]
 pub struct Runner {
     shape: Shape,
     sim: Sim,
+    with_state: bool,
     tick: Tick,
     at: u64,
 }
@@ -34,12 +37,13 @@ impl Runner {
         net: FlatNet,
         order: Order,
         shape: Shape,
+        with_state: bool,
         trace: &[u8],
     ) -> Result<Runner, Refused<TraceFault>>
         requires whole { IsNet net }
         requires in_order { IsOrder net order }
         requires of_net { plain shape ≡ shape_of_net net }
-        ensures { (with_state : Bool) → Begins trace.now net shape with_state result }
+        ensures { Begins trace.now (record { net = net; shape = shape; with_state = with_state }) result }
     {
         trace_reads_in_steps();
         let (init, at) = match read_init(alloc, trace, &shape) {
@@ -51,42 +55,64 @@ impl Runner {
         Ok(Runner {
             shape,
             sim,
+            with_state,
             tick,
             at,
         })
     }
+}
 
-    /// Runs the next tick of the trace and appends its line; false where no tick is left. Where no line is
-    /// made, `lines` is as before.
-    pub fn step(
+impl Simulation for Runner {
+    ghost use Rattle.fir_runner.specs.working.Running.{SimulatedNet, simulated_by, Ran, IsReady, IsRunning};
+
+    ghost simulated = { SimulatedNet };
+
+    ghost of = { simulated_by };
+
+    ghost ran = { Ran };
+
+    /// Every item of a circuit has a value at every tick.
+    ghost lacked = { λ net trace lack printed. ⊥ };
+
+    ghost is_ready = { IsReady };
+
+    ghost place = { λ r. r.at };
+
+    ghost has_made = { IsRunning };
+
+    fn step(
         &mut self,
         alloc: Global,
         trace: &[u8],
-        with_state: bool,
         lines: &mut Vec<u8>,
-    ) -> Result<bool, Refused<TraceFault>>
-        requires { IsReady trace.now self.old }
-        ensures ready { IsReady trace.now self.new }
-        ensures stays { Stays self.old self.new }
-        ensures later { result ≡ Ok true → self.old.at < self.new.at }
-        ensures steps { (printed : List ℕ) → IsRunning trace.now with_state self.old printed → Steps trace.now with_state self.new printed lines.old.items lines.new.items result }
-    {
+    ) -> Result<bool, Refused<Stop>> {
         trace_reads_in_steps();
         match next_tick(trace, &mut self.at, &self.shape, &mut self.tick) {
             Ok(true) => {}
             Ok(false) => return Ok(false),
-            Err(fault) => return Err(Refused::Fault(fault)),
+            Err(fault) => return Err(Refused::Fault(Stop::BadLine(fault))),
         }
         self.sim.tick(&self.tick);
         write_line(
             alloc,
             self.sim.outputs(),
-            shown_state(&self.sim, with_state),
+            shown_state(&self.sim, self.with_state),
             None,
             lines,
         )?;
         Ok(true)
     }
+
+    ghost is_within = { λ trace r ready. ready.place };
+
+    ghost made_front = { λ trace r printed h. record {
+      init = h.init;
+      ticks = h.ticks;
+      said = (h.read.lines, h.read.lines_are, h.read.spelled);
+      shown = h.shown;
+      run = h.run;
+      lines = h.lines;
+    } };
 }
 
 /// The state, where it is shown.

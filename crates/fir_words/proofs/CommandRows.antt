@@ -1,9 +1,9 @@
 -- What some words ask for, computed by the checker.
-use Rattle.std.proofs.Common.{◌≡◌, List, [], ◌∷◌, Bool, Option, Some, None, refl}
+use Rattle.std.proofs.Common.{◌≡◌, ℕ, List, [], ◌∷◌, Bool, Option, Some, None, refl}
 use Rattle.std.specs.Prelude.{codes, true, false}
 use Rattle.clap.specs.Words.{Text}
 use Rattle.clap.proofs.OnLiterals.{clap_on_literals}
-use Rattle.fir_words.specs.Commands.{Command, check, command_of, emit, sim, simulation_of}
+use Rattle.fir_words.specs.Commands.{Command, check, command_of, emit, sim, simulation_of, verilog_simulation_of, vsim}
 
 -- the words behind the program's name
 abbrev asks : List Text → Option Command
@@ -11,6 +11,13 @@ asks words = command_of (codes "firc" ∷ words)
 
 abbrev simulation : Bool → Option Command
 simulation with_state = Some (sim (simulation_of (codes "c") (codes "t") with_state))
+
+abbrev verilog_simulation : Bool → Option ℕ → Option Command
+verilog_simulation with_state order = Some (vsim (verilog_simulation_of (codes "v") (codes "t") with_state order))
+
+-- `vsim` with a number as its order
+abbrev asks_order : List ℕ → Option Command
+asks_order number = asks (codes "vsim" ∷ codes "v" ∷ codes "t" ∷ codes "--order" ∷ number ∷ [])
 
 -- ---- each command
 
@@ -59,6 +66,98 @@ state_of_emit = refl
 state_of_no_command : asks (codes "--state" ∷ codes "sim" ∷ codes "c" ∷ codes "t" ∷ []) ≡ None
 unfolding clap_on_literals
 state_of_no_command = refl
+
+-- ---- an order, wherever its words stand
+
+verilog_of_two_files : asks (codes "vsim" ∷ codes "v" ∷ codes "t" ∷ []) ≡ verilog_simulation false None
+unfolding clap_on_literals
+verilog_of_two_files = refl
+
+order_behind : asks (codes "vsim" ∷ codes "v" ∷ codes "t" ∷ codes "--order" ∷ codes "5" ∷ []) ≡ verilog_simulation false (Some 5)
+unfolding clap_on_literals
+order_behind = refl
+
+order_before : asks (codes "vsim" ∷ codes "--order" ∷ codes "5" ∷ codes "v" ∷ codes "t" ∷ []) ≡ verilog_simulation false (Some 5)
+unfolding clap_on_literals
+order_before = refl
+
+order_between_with_state : asks (codes "vsim" ∷ codes "v" ∷ codes "--order" ∷ codes "5" ∷ codes "t" ∷ codes "--state" ∷ []) ≡ verilog_simulation true (Some 5)
+unfolding clap_on_literals
+order_between_with_state = refl
+
+order_in_one_word : asks (codes "vsim" ∷ codes "v" ∷ codes "t" ∷ codes "--order=7" ∷ []) ≡ verilog_simulation false (Some 7)
+unfolding clap_on_literals
+order_in_one_word = refl
+
+order_twice : asks (codes "vsim" ∷ codes "v" ∷ codes "t" ∷ codes "--order" ∷ codes "1" ∷ codes "--order" ∷ codes "2" ∷ []) ≡ None
+unfolding clap_on_literals
+order_twice = refl
+
+order_without_value : asks (codes "vsim" ∷ codes "v" ∷ codes "t" ∷ codes "--order" ∷ []) ≡ None
+unfolding clap_on_literals
+order_without_value = refl
+
+order_without_value_before : asks (codes "vsim" ∷ codes "--order" ∷ codes "v" ∷ codes "t" ∷ []) ≡ None
+unfolding clap_on_literals
+order_without_value_before = refl
+
+order_before_state : asks (codes "vsim" ∷ codes "v" ∷ codes "t" ∷ codes "--order" ∷ codes "--state" ∷ []) ≡ None
+unfolding clap_on_literals
+order_before_state = refl
+
+order_of_sim : asks (codes "sim" ∷ codes "c" ∷ codes "t" ∷ codes "--order" ∷ codes "5" ∷ []) ≡ None
+unfolding clap_on_literals
+order_of_sim = refl
+
+order_of_emit : asks (codes "emit" ∷ codes "f" ∷ codes "--order" ∷ codes "5" ∷ []) ≡ None
+unfolding clap_on_literals
+order_of_emit = refl
+
+verilog_without_trace : asks (codes "vsim" ∷ codes "v" ∷ []) ≡ None
+unfolding clap_on_literals
+verilog_without_trace = refl
+
+-- ---- numbers
+
+zero : asks_order (codes "0") ≡ verilog_simulation false (Some 0)
+unfolding clap_on_literals
+zero = refl
+
+greatest : asks_order (codes "4294967295") ≡ verilog_simulation false (Some 4294967295)
+unfolding clap_on_literals
+greatest = refl
+
+too_great : asks_order (codes "4294967296") ≡ None
+unfolding clap_on_literals
+too_great = refl
+
+zero_before : asks_order (codes "05") ≡ None
+unfolding clap_on_literals
+zero_before = refl
+
+zero_twice : asks_order (codes "00") ≡ None
+unfolding clap_on_literals
+zero_twice = refl
+
+plus_before : asks_order (codes "+5") ≡ None
+unfolding clap_on_literals
+plus_before = refl
+
+letter_behind : asks_order (codes "5x") ≡ None
+unfolding clap_on_literals
+letter_behind = refl
+
+minus_before : asks_order (codes "-5") ≡ None
+unfolding clap_on_literals
+minus_before = refl
+
+no_digits : asks_order [] ≡ None
+unfolding clap_on_literals
+no_digits = refl
+
+no_digits_in_one_word : asks (codes "vsim" ∷ codes "v" ∷ codes "t" ∷ codes "--order=" ∷ []) ≡ None
+unfolding clap_on_literals
+no_digits_in_one_word = refl
 
 -- ---- too few words, too many, and none of the commands
 

@@ -5,5 +5,6 @@ pub mod TakenWords
 pub mod PlainWords
 pub mod NamedWords
 pub mod PlainNames
-pub mod SimulationNames
+pub mod VerilogNames
+pub mod Numbers
 mod CommandRows

@@ -2,10 +2,11 @@
 
 ghost use Rattle.std.specs.Prelude.{◌≡◌, IfOk, option_and_then, option_map};
 ghost use Rattle.clap.specs.Words.{first_of, found_of, rows_of, subcommand_rows_of};
-ghost use Rattle.fir_words.specs.Commands.{asked_by, command_in, command_found, is_set, simulation_in};
-ghost use Rattle.fir_words.specs.working.Commanded.{commanded, simulated};
+ghost use Rattle.fir_words.specs.Commands.{asked_by, command_in, command_found, is_set, order_in, simulation_in, verilog_simulation_in};
+ghost use Rattle.fir_words.specs.working.Commanded.{commanded, simulated, verilog_simulated};
 
 use crate::command_set::command_set;
+use crate::number::number_of;
 use clap::ArgMatches;
 use clap::error::ErrorKind;
 use fir_base::MemoryOut;
@@ -22,6 +23,19 @@ pub struct Simulation<'a> {
     pub with_state: bool,
 }
 
+/// A simulation of a Verilog text that the words ask for.
+#[derive(Clone, Copy)]
+pub struct VerilogSimulation<'a> {
+    /// The name of the text's file.
+    pub verilog: &'a str,
+    /// The name of the trace's file.
+    pub trace: &'a str,
+    /// Whether the state is shown.
+    pub with_state: bool,
+    /// The number of an order of the processes, where one is given.
+    pub order: Option<u32>,
+}
+
 /// What the words ask for.
 #[derive(Clone, Copy)]
 pub enum Command<'a> {
@@ -31,6 +45,8 @@ pub enum Command<'a> {
     Emit(&'a str),
     /// The lines of a circuit on a trace.
     Sim(Simulation<'a>),
+    /// The lines of a Verilog text on a trace.
+    Vsim(VerilogSimulation<'a>),
 }
 
 /// What the words ask for, and `None` where they are not taken. `words[0]` is the program's name.
@@ -68,6 +84,8 @@ fn command_in<'a>(name: &str, found: &ArgMatches<'a>) -> Option<Command<'a>>
         Some(Command::Emit(value_in(found, "file")?))
     } else if name == "sim" {
         Some(Command::Sim(simulation_in(found)?))
+    } else if name == "vsim" {
+        Some(Command::Vsim(verilog_simulation_in(found)?))
     } else {
         None
     }
@@ -81,6 +99,27 @@ fn simulation_in<'a>(found: &ArgMatches<'a>) -> Option<Simulation<'a>>
         trace: value_in(found, "trace")?,
         with_state: is_set(found, "state"),
     })
+}
+
+fn verilog_simulation_in<'a>(found: &ArgMatches<'a>) -> Option<VerilogSimulation<'a>>
+    ensures { option_map verilog_simulated result ≡ verilog_simulation_in (rows_of (found_of found.now)) }
+{
+    Some(VerilogSimulation {
+        verilog: value_in(found, "file")?,
+        trace: value_in(found, "trace")?,
+        with_state: is_set(found, "state"),
+        order: order_in(found)?,
+    })
+}
+
+// The order that is given, if any, and `None` where what is given is no number.
+fn order_in(found: &ArgMatches<'_>) -> Option<Option<u32>>
+    ensures { result ≡ order_in (rows_of (found_of found.now)) }
+{
+    match value_in(found, "order") {
+        Some(text) => Some(Some(number_of(text)?)),
+        None => Some(None),
+    }
 }
 
 fn value_in<'a>(found: &ArgMatches<'a>, id: &str) -> Option<&'a str>

@@ -1,9 +1,10 @@
 //! The words of the command line: the commands that the program has (`command_set`), and what the words ask for
-//! (`command`). The library clap reads them, and what it takes is the definition.
+//! (`command`), with their numbers (`number`). The library clap reads the words, and what it takes is the definition.
 #![tactic(auto)]
 
 mod command;
 mod command_set;
 pub mod laws;
+mod number;
 
-pub use command::{Command, Simulation, command_of};
+pub use command::{Command, Simulation, VerilogSimulation, command_of};

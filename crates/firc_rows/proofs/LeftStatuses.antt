@@ -1,20 +1,25 @@
 -- Which statuses are left where no count of faults rises.
-use Rattle.std.proofs.Common.{◌≡◌, ℕ, List, Option, Some, None, inl, inr, refl, arith}
+use Rattle.std.proofs.Common.{◌≡◌, ℕ, ◌<◌, List, Option, Some, None, inl, inr, refl, ap, lit<, arith}
 use Rattle.fir_io.specs.Ports.{Rose}
-use Rattle.fir_outcome.specs.declared.status.Status.{Status}
-use Rattle.fir_outcome.specs.declared.status.Status.TheVariants.{Done, Refused, Usage, Unread, Unwritten, NoMemory, BadTrace, TooLong}
-use Rattle.fir_outcome.specs.Outside.{Outside, code}
+use Rattle.fir_cli.specs.declared.status.Status.{Status}
+use Rattle.fir_cli.specs.declared.status.Status.TheVariants.{Done, Refused, Usage, Unread, Unwritten, NoMemory, BadTrace, BadVerilog, TooLong}
+use Rattle.fir_cli.specs.Outside.{Outside, code}
+use Rattle.trace_command.specs.Simulates.{Simulates}
 use Rattle.fir_words.specs.Commands.{Command, Simulated, check, emit, sim}
 use Rattle.fir_commands.specs.Check.{check_meaning}
 use Rattle.fir_commands.specs.Emit.{emit_meaning}
-use Rattle.fir_commands.specs.Simulates.{Simulates}
+use Rattle.fir_commands.specs.Sim.{sim_meaning}
 use Rattle.fir_commands.specs.TextCommands.{PutsText, TextMeaning}
-use Rattle.fir_driver.specs.Program.{DoesFor}
+use Rattle.fir_driver.specs.Program.{DoesFor, files_of}
 use Rattle.firc_rows.specs.working.Left.{IsLeft}
 
 -- what never counts a fault has none
 no_rise : (before after : ℕ) → before ≡ 0 → after ≡ 0 → Rose before after → ⊥
 no_rise before after b a rose = let h : Rose 0 0 = rw (b, a) at rose in absurd (omega (arith, h))
+
+-- a text that is refused has the number 1
+no_refusal : (s : Status) → s ≡ Refused → 1 < code s → ⊥
+no_refusal s same above = let h : code s ≡ 1 = ap code same in omega arith
 
 pub record NoneRise (before after : Outside) : Type 0 where
   pub files : Rose before.files.faults after.files.faults → ⊥
@@ -31,17 +36,21 @@ module _ (before after : Outside) (none : NoneRise before after) where
   of_text k name Unwritten (inr h) = absurd (none.err h.1)
   of_text k name NoMemory h = inr (inr (inl refl))
   of_text k name BadTrace h = absurd h.1
+  of_text k name BadVerilog h = absurd h.1
   of_text k name TooLong h = inr (inr (inr refl))
 
-  of_simulation : (m : Simulated) (s : Status) → Simulates m before after s → IsLeft (Some (sim m)) (code s)
+  of_simulation : (m : Simulated) (s : Status) → Simulates (sim_meaning m.with_state) (files_of m) before after s → IsLeft (Some (sim m)) (code s)
   of_simulation m Done h = inl refl
   of_simulation m Refused h = inr (inl refl)
-  of_simulation m Usage h = absurd h.1
+  of_simulation m Usage (inl h) = absurd (no_refusal Usage h.1.0 (lit< tt))
+  of_simulation m Usage (inr h) = absurd (no_refusal Usage h.0 (lit< tt))
   of_simulation m Unread h = absurd (none.files h.1.2)
   of_simulation m Unwritten (inl h) = absurd (none.out h.1)
   of_simulation m Unwritten (inr h) = absurd (none.err h.1)
   of_simulation m NoMemory h = inr (inr (inl refl))
   of_simulation m BadTrace h = inr (inr (inr (inl refl)))
+  of_simulation m BadVerilog (inl h) = absurd (no_refusal BadVerilog h.1.0 (lit< tt))
+  of_simulation m BadVerilog (inr h) = absurd (no_refusal BadVerilog h.0 (lit< tt))
   of_simulation m TooLong h = inr (inr (inr (inr refl)))
 
   left : (asked : Option Command) (s : Status) → DoesFor asked before after s → IsLeft asked (code s)
@@ -52,6 +61,7 @@ module _ (before after : Outside) (none : NoneRise before after) where
   left None Refused h = absurd h
   left None Unread h = absurd h
   left None BadTrace h = absurd h
+  left None BadVerilog h = absurd h
   left None TooLong h = absurd h
   left (Some (check name)) s h = of_text check_meaning name s h
   left (Some (emit name)) s h = of_text emit_meaning name s h

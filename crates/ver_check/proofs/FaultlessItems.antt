@@ -93,7 +93,7 @@ module _ (before : Before) (v : Verilog) (mirrors : Mirrors before v) (fine : Is
       → assign_faults_by before (Some (record { name = n; kind = k; place = q })) a ps ≡ [] → In (assigned_names v) a.target → ⊥
   new_by_kind a ps n kind.ClockInput q e = absurd (cc)
   new_by_kind a ps n kind.ClockOutput q e = not_assigned a.target (place_at 1 ps) (first_empty _ (clock_side_faults scope a.rhs (place_at 2 ps)) e)
-  new_by_kind a ps n (kind.Input w) q e = absurd (cc)
+  new_by_kind a ps n (kind.Input w) q e = absurd (let twice = second_empty (truth_faults w a.rhs (place_at 1 ps)) _ e in cc)
   new_by_kind a ps n (kind.Output w) q e = not_assigned a.target (place_at 1 ps) (second_empty (truth_faults w a.rhs (place_at 1 ps)) _ (first_empty _ _ e))
   new_by_kind a ps n (kind.Wire w) q e = not_assigned a.target (place_at 1 ps) (second_empty (truth_faults w a.rhs (place_at 1 ps)) _ (first_empty _ _ e))
   new_by_kind a ps n (kind.Register w) q e = absurd (cc)
@@ -137,7 +137,7 @@ module _ (before : Before) (v : Verilog) (mirrors : Mirrors before v) (fine : Is
       inl (clock_output_in before v mirrors fine a.target is, faultless_clock_side before v mirrors fine a.rhs (place_at 2 ps) (second_empty _ _ e)),
       not_assigned a.target (place_at 1 ps) (first_empty _ (clock_side_faults scope a.rhs (place_at 2 ps)) e),
     )
-    by_kind n (kind.Input w) q is e = absurd (cc)
+    by_kind n (kind.Input w) q is e = absurd (let twice = second_empty (truth_faults w a.rhs (place_at 1 ps)) _ e in cc)
     by_kind n (kind.Output w) q is e = net_assign w (output_in before v mirrors fine a.target w is) e
     by_kind n (kind.Wire w) q is e = net_assign w (wire_in before v mirrors fine a.target w is) e
     by_kind n (kind.Register w) q is e = absurd (cc)

@@ -126,7 +126,7 @@ module _ (before : Before) where
       → assign_faults_by before (Some (record { name = n; kind = k; place = q })) a ps ≡ [] → IsKnown scope (item.Assign a)
   assign_by_kind a ps n kind.ClockInput q is e = absurd (cc)
   assign_by_kind a ps n kind.ClockOutput q is e = inl is
-  assign_by_kind a ps n (kind.Input w) q is e = absurd (cc)
+  assign_by_kind a ps n (kind.Input w) q is e = absurd (let twice = second_empty _ _ e in cc)
   assign_by_kind a ps n (kind.Output w) q is e = inr ((w, inr is), side_reads scope w a.rhs (drop 2 ps) (second_empty _ _ e))
   assign_by_kind a ps n (kind.Wire w) q is e = inr ((w, inl is), side_reads scope w a.rhs (drop 2 ps) (second_empty _ _ e))
   assign_by_kind a ps n (kind.Register w) q is e = absurd (cc)

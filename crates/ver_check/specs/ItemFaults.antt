@@ -93,7 +93,7 @@ module _ (before : Before) where
       of_kind : Kind → List VFault
       of_kind kind.ClockInput = twice_fault (place_at 1 ps) a.target d.place ∷ []
       of_kind kind.ClockOutput = clock_assign_faults a ps
-      of_kind (kind.Input w) = twice_fault (place_at 1 ps) a.target d.place ∷ []
+      of_kind (kind.Input w) = truth_faults w a.rhs (place_at 1 ps) ++ twice_fault (place_at 1 ps) a.target d.place ∷ []
       of_kind (kind.Output w) = net_assign_faults w a ps
       of_kind (kind.Wire w) = net_assign_faults w a ps
       of_kind (kind.Register w) = kind_fault (place_at 1 ps) ∷ []

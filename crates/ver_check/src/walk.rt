@@ -1,9 +1,11 @@
 //! The ports and the items, in the order of the text.
 
-ghost use Rattle.std.specs.Prelude.{◌≡◌, ◌≤◌, List, None, [], IsTrue};
+ghost use Rattle.std.specs.Prelude.{◌≡◌, ◌≤◌, ◌∷◌, ◌++◌, List, None, [], IsTrue};
 ghost use Rattle.ver_ast.specs.declared.tree.Item.TheVariants as item_form;
 ghost use Rattle.ver_check.specs.Scopes.{declaration_of};
 ghost use Rattle.ver_check.specs.OperandFaults.{is_narrow};
+ghost use Rattle.ver_check.specs.FaultForms.{twice_fault};
+ghost use Rattle.ver_check.specs.SideFaults.{truth_faults};
 ghost use Rattle.ver_check.specs.ItemFaults.{Before, Driver, array_faults, assign_faults, clock_assign_faults, declared_faults, driver_of, item_faults, named_faults, net_assign_faults, no_range_faults, port_faults, range_faults, writes_faults, writing_faults};
 ghost use Rattle.ver_places.specs.Places.{port_places};
 ghost use Rattle.ver_check.specs.TreeFaults.{behind_all, behind_items, behind_net, behind_ports, behind_writes, misfits, items_faults, kind_by, nothing_before, ports_faults, reset_place, undriven_of, with_declared, with_written};
@@ -368,14 +370,27 @@ fn judge_assign(
         return Err(Refused::Fault(undeclared(alloc, place, target)?));
     };
     match entry.kind {
-        Kind::ClockInput | Kind::Input(_) => {
-            Err(Refused::Fault(twice(alloc, place, target, entry.place)?))
-        }
+        Kind::ClockInput => Err(Refused::Fault(twice(alloc, place, target, entry.place)?)),
+        Kind::Input(width) => input_assign(alloc, place, width, entry.place, assign),
         Kind::Register(_) | Kind::Array(_) => Err(Refused::Fault(VerFault::Kind { place })),
         Kind::ClockOutput => clock_assign(alloc, scope, assigned, places, assign),
         Kind::Output(width) => net_assign(alloc, scope, assigned, places, width, assign),
         Kind::Wire(width) => net_assign(alloc, scope, assigned, places, width, assign),
     }
+}
+
+/// An assign of an input of that width, which has its driver outside, and its declaration at that place.
+fn input_assign(
+    alloc: Global,
+    place: VPlace,
+    width: u32,
+    declared: VPlace,
+    assign: &Assign,
+) -> Result<(), Refused<VerFault>>
+    ensures { Finds result (truth_faults width assign.now.rhs place ++ twice_fault place assign.now.target declared ∷ []) }
+{
+    truth(width, &assign.rhs, place)?;
+    Err(Refused::Fault(twice(alloc, place, &assign.target, declared)?))
 }
 
 /// An assign of a clock output.

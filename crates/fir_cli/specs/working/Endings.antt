@@ -3,11 +3,10 @@
 use Rattle.std.specs.Prelude.{◌≡◌, ℕ, List, ◌⊎◌}
 use Rattle.fir_io.specs.declared.ports.FileFault.{FileFault}
 use Rattle.fir_io.specs.declared.ports.FileFault.TheVariants as file
-use Rattle.fir_io.specs.Ports.{SinkSeen, Rose, Grew}
-use Rattle.fir_outcome.specs.declared.status.Status.{Status}
-use Rattle.fir_outcome.specs.declared.status.Status.TheVariants as status
-use Rattle.fir_outcome.specs.Outside.{Kept, GrewByFront}
-use Rattle.fir_outcome.specs.Messages.{unread_line, too_long_line, memory_line}
+use Rattle.fir_io.specs.Ports.{SinkSeen, Rose, Grew, Kept, GrewByFront}
+use Rattle.fir_cli.specs.declared.status.Status.{Status}
+use Rattle.fir_cli.specs.declared.status.Status.TheVariants as status
+use Rattle.fir_cli.specs.Messages.{unread_line, too_long_line, memory_line}
 
 -- a line was put, which ends with the due status
 abbrev pub Said : List ℕ → Status → SinkSeen → SinkSeen → Status → Type 0

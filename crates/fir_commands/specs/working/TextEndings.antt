@@ -6,11 +6,10 @@ use Rattle.fir_base.specs.declared.refused.Refused.TheVariants as refused
 use Rattle.fir_ast.specs.declared.fault.FirFault.{FirFault}
 use Rattle.fir_ast.specs.Faults.{fault_line}
 use Rattle.fir_ast.specs.working.CodeFaults.{fault_of}
-use Rattle.fir_io.specs.Ports.{SinkSeen, Rose, Grew}
-use Rattle.fir_outcome.specs.declared.status.Status.{Status}
-use Rattle.fir_outcome.specs.declared.status.Status.TheVariants as status
-use Rattle.fir_outcome.specs.Outside.{Kept, GrewByFront, Tried}
-use Rattle.fir_outcome.specs.Messages.{unwritten_line, memory_line}
+use Rattle.fir_io.specs.Ports.{SinkSeen, Rose, Grew, Kept, GrewByFront, Tried}
+use Rattle.fir_cli.specs.declared.status.Status.{Status}
+use Rattle.fir_cli.specs.declared.status.Status.TheVariants as status
+use Rattle.fir_cli.specs.Messages.{unwritten_line, memory_line}
 use Rattle.fir_commands.specs.TextCommands.{TextMeaning}
 
 -- the text was put to the output, and what is due then to the error output

@@ -1,4 +1,4 @@
-use Rattle.fir_outcome.specs.Outside.{IsRead, outside}
+use Rattle.fir_cli.specs.Outside.{IsRead, outside}
 use Rattle.fir_commands.proofs.TextEnded.{untaken_ended, text_ended}
 use Rattle.fir_commands.proofs.text_command.put_text_of.Goals as goal
 

@@ -17,5 +17,6 @@ returns c =
     let top : app_of c.disable_help_subcommand.result ≡ set_app (new_app (codes "firc")) = ap app_of_fields settings_are ∙ ap set_app c.new.ensures.app in
     let first = c.in_ok-subcommand.ensures.shape c.in_ok-check.ensures.local ∙ ap₂ with_subcommand top c.in_ok-check.ensures.shape in
     let second = c.in_ok-subcommand-2.ensures.shape c.in_ok-emit.ensures.local ∙ ap₂ with_subcommand first c.in_ok-emit.ensures.shape in
-    IfOk-weaker c.subcommand-3.result _ _
-    (λ r adds. adds.shape c.in_ok-sim.ensures.local ∙ ap₂ with_subcommand second c.in_ok-sim.ensures.shape) c.subcommand-3.ensures
+    let third = c.in_ok-subcommand-3.ensures.shape c.in_ok-sim.ensures.local ∙ ap₂ with_subcommand second c.in_ok-sim.ensures.shape in
+    IfOk-weaker c.subcommand-4.result _ _
+    (λ r adds. adds.shape c.in_ok-vsim.ensures.local ∙ ap₂ with_subcommand third c.in_ok-vsim.ensures.shape) c.subcommand-4.ensures

@@ -1,0 +1,3 @@
+pub mod TraceWords
+pub mod OutputWidths
+pub mod Printing

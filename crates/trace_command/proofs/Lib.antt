@@ -1,0 +1,3 @@
+pub mod SimulationEnded
+pub mod SimulationComplete
+pub mod LinedTicks

@@ -1,0 +1,3 @@
+pub mod Simulates
+pub mod SimulationAnswers
+pub mod working

@@ -1,0 +1,3 @@
+-- What no clause of `run` reads: contracts between layers, laws, views of the code and its states.
+pub mod SimulationEndings
+pub mod Laws

@@ -1,0 +1,3 @@
+pub mod Saying
+pub mod Runs
+pub mod working

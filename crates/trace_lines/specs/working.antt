@@ -1,0 +1,4 @@
+-- What no clause of `run` reads: contracts between layers, laws, views of the code and its states.
+pub mod Stepping
+pub mod Lined
+pub mod Growing

@@ -1,0 +1,2 @@
+pub mod Vsim
+pub mod working

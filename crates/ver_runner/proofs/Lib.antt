@@ -1,0 +1,17 @@
+pub mod Shuffles
+pub mod Turns
+pub mod Settled
+pub mod TickTaken
+pub mod Rooms
+pub mod Counted
+pub mod LineFits
+pub mod Stepped
+pub mod Begun
+pub mod Ready
+pub mod CountedEnds
+pub mod SameWrites
+pub mod SameValues
+pub mod LackedTicks
+pub mod SameCounts
+pub mod FrontLines
+pub mod Starts

@@ -1,0 +1,4 @@
+pub mod Orders
+pub mod Counting
+pub mod VerilogLines
+pub mod working
