@@ -17,6 +17,7 @@ pub mod FaultlessBlocks
 pub mod SoundBlocks
 pub mod FaultlessItems
 pub mod SoundItems
+pub mod InputAssigns
 pub mod StepsBehind
 pub mod WalksBehind
 pub mod DueNames

@@ -23,7 +23,7 @@ use Rattle.ver_check.specs.declared.kind.Kind.{Kind}
 use Rattle.ver_check.specs.declared.kind.Kind.TheVariants as kind
 use Rattle.ver_check.specs.Scopes.{Declaration, Scope, bits_of, declaration_of, found_by, kind_bits, kind_of, register_bits}
 use Rattle.ver_check.specs.OperandFaults.{atom_bits, atom_faults, is_constant_fit, joined_faults, name_faults, own_faults, width_faults}
-use Rattle.ver_check.specs.SideFaults.{first_needs, second_needs, side_faults, signed_faults}
+use Rattle.ver_check.specs.SideFaults.{first_needs, second_needs, side_faults, signed_faults, truth_faults}
 use Rattle.ver_check.specs.ItemFaults.{Before, assign_faults_by, driven_faults, driver_of, item_faults, register_faults, reset_faults, resetting_faults_by, tested_faults}
 use Rattle.ver_check.specs.TreeFaults.{behind_item, behind_items, items_faults}
 use Rattle.ver_check.proofs.Faultless.{first_empty, second_empty}
@@ -126,7 +126,7 @@ module _ (before : Before) where
       → assign_faults_by before (Some (record { name = n; kind = k; place = q })) a ps ≡ [] → IsKnown scope (item.Assign a)
   assign_by_kind a ps n kind.ClockInput q is e = absurd (cc)
   assign_by_kind a ps n kind.ClockOutput q is e = inl is
-  assign_by_kind a ps n (kind.Input w) q is e = absurd (let twice = second_empty _ _ e in cc)
+  assign_by_kind a ps n (kind.Input w) q is e = absurd (let twice = second_empty (truth_faults w a.rhs (place_at 1 ps)) _ e in cc)
   assign_by_kind a ps n (kind.Output w) q is e = inr ((w, inr is), side_reads scope w a.rhs (drop 2 ps) (second_empty _ _ e))
   assign_by_kind a ps n (kind.Wire w) q is e = inr ((w, inl is), side_reads scope w a.rhs (drop 2 ps) (second_empty _ _ e))
   assign_by_kind a ps n (kind.Register w) q is e = absurd (cc)
