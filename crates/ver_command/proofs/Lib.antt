@@ -1,3 +1,4 @@
+pub mod Refused
 pub mod Printed
-pub mod VsimLaws
 pub mod VsimRan
+pub mod VsimLaws

@@ -1,5 +1,5 @@
 -- What the tree of a text prints, `vsim` prints of the text.
-use Rattle.std.proofs.Common.{◌≡◌, ℕ, List, Bool, Option, refl, subst}
+use Rattle.std.proofs.Common.{ℕ, List, Bool, Option, refl, subst}
 use Rattle.trace_text.specs.Shapes.{TraceShape}
 use Rattle.trace_lines.specs.declared.simulation.Lack.{Lack}
 use Rattle.trace_lines.specs.Saying.{Saying, lack_line}

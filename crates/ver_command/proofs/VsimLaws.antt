@@ -1,6 +1,5 @@
 -- What holds of the meaning of `vsim`.
 use Rattle.std.proofs.Common.{◌≡◌, ℕ, List, Bool, Option, inl, inr, refl, sym, ap, ◌∙◌, subst}
-use Rattle.fir_base.specs.Ticks.{Tick}
 use Rattle.trace_command.specs.working.Laws.{FrontsBegin, SimulationLaws}
 use Rattle.ver_ast.specs.declared.tree.Verilog.{Verilog}
 use Rattle.ver_ast.specs.Allows.{VRun}
@@ -40,20 +39,18 @@ module _ (one : SpellsOneTree) where
         (subst (λ v. VRun v init ticks runs.2) (same_tree text runs.0 p.tree runs.1 p.taken) runs.3);
   }
 
-  pub fronts_begin : VFrontsBegin → (with_state : Bool) (order : Option ℕ) → FrontsBegin (vsim_meaning with_state order)
-  fronts_begin law with_state order text trace printed p all h =
-      law p.tree p.taken.valid order with_state (trace_shape p.tree) trace printed p.ran all (by h)
-    where
-      ran_of : (says : Saying) → VPrints with_state order text says all → VRan p.tree order with_state (trace_shape p.tree) says all
-      ran_of says q = subst (λ v. VRan v order with_state (trace_shape v) says all) (p.only_tree q.tree q.taken.spelled) q.ran
+pub fronts_begin : VFrontsBegin → (with_state : Bool) (order : Option ℕ) → FrontsBegin (vsim_meaning with_state order)
+fronts_begin law with_state order text trace printed p all h =
+    law p.tree p.taken.valid order with_state (trace_shape p.tree) trace printed p.ran all (by h)
+  where
+    ran_of : (says : Saying) → VPrints with_state order text says all → VRan p.tree order with_state (trace_shape p.tree) says all
+    ran_of says q = subst (λ v. VRan v order with_state (trace_shape v) says all) (p.only_tree q.tree q.taken.spelled) q.ran
 
-      by : PrintsAll (VPrints with_state order text) (VLacks with_state order text trace) trace all
-          → PrintsAll (VRan p.tree order with_state (trace_shape p.tree)) (Lacks p.tree order with_state (trace_shape p.tree) trace) trace all
-      by (inl q) = inl (ran_of (TraceSpells trace) q)
-      by (inr (inl (line, q))) = inr (inl (line, ran_of (SaysBadly trace line) q))
-      by (inr (inr (line, q))) = inr (inr (
-        line,
-        q.lack,
-        subst (λ v. VLacked v order with_state (trace_shape v) trace q.lack all) (p.only_tree q.tree q.taken.spelled) q.lacked,
-        q.line_is,
-      ))
+    by : PrintsAll (VPrints with_state order text) (VLacks with_state order text trace) trace all
+        → PrintsAll (VRan p.tree order with_state (trace_shape p.tree)) (Lacks p.tree order with_state (trace_shape p.tree) trace) trace all
+    by (inl q) = inl (ran_of (TraceSpells trace) q)
+    by (inr (inl (line, q))) = inr (inl (line, ran_of (SaysBadly trace line) q))
+    by (inr (inr (line, q))) = inr (inr (
+      line,
+      (q.lack, subst (λ v. VLacked v order with_state (trace_shape v) trace q.lack all) (p.only_tree q.tree q.taken.spelled) q.lacked, q.line_is),
+    ))

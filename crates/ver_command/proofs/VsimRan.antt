@@ -1,5 +1,5 @@
 -- What a tree printed on a trace up to a bad line, as `vsim` says it of the text.
-use Rattle.std.proofs.Common.{◌≡◌, ℕ, List, Bool, Option, refl}
+use Rattle.std.proofs.Common.{ℕ, List, Bool, Option, refl}
 use Rattle.trace_text.specs.declared.fault.TraceFault.{TraceFault}
 use Rattle.trace_text.specs.BadLine.{BadLine}
 use Rattle.trace_text.specs.Shapes.{TraceShape}

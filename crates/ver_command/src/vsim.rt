@@ -7,6 +7,7 @@ use fir_io::Sink;
 use std::alloc::Global;
 use trace_command::SimulationCommand;
 use trace_lines::{Finish, put_lines};
+use ver_ast::spells_one_tree;
 use ver_runner::VRunner;
 use ver_runner::laws::fronts_begin;
 
@@ -37,6 +38,7 @@ impl SimulationCommand for Vsim {
     }
 
     fn run<S: Sink>(&self, alloc: Global, machine: Machine, trace: &[u8], out: &mut S) -> Finish {
+        spells_one_tree();
         let Machine { shape, tree } = machine;
         match VRunner::new(alloc, tree, shape, self.order, self.with_state, trace) {
             Ok(mut runner) => put_lines(alloc, &mut runner, trace, out),
