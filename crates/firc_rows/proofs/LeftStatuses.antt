@@ -1,16 +1,17 @@
 -- Which statuses are left where no count of faults rises.
-use Rattle.std.proofs.Common.{◌≡◌, ℕ, ◌<◌, List, Option, Some, None, inl, inr, refl, ap, lit<, arith}
+use Rattle.std.proofs.Common.{◌≡◌, ◌⊎◌, ⊎_elim, ℕ, ◌<◌, List, Option, Some, None, inl, inr, refl, ap, lit<, arith}
 use Rattle.fir_io.specs.Ports.{Rose}
 use Rattle.fir_cli.specs.declared.status.Status.{Status}
 use Rattle.fir_cli.specs.declared.status.Status.TheVariants.{Done, Refused, Usage, Unread, Unwritten, NoMemory, BadTrace, BadVerilog, TooLong}
 use Rattle.fir_cli.specs.Outside.{Outside, code}
 use Rattle.trace_command.specs.Simulates.{Simulates}
-use Rattle.fir_words.specs.Commands.{Command, Simulated, check, emit, sim}
+use Rattle.fir_words.specs.Commands.{Command, Simulated, SimulatedVerilog, check, emit, sim, vsim}
 use Rattle.fir_commands.specs.Check.{check_meaning}
 use Rattle.fir_commands.specs.Emit.{emit_meaning}
 use Rattle.fir_commands.specs.Sim.{sim_meaning}
 use Rattle.fir_commands.specs.TextCommands.{PutsText, TextMeaning}
-use Rattle.fir_driver.specs.Program.{DoesFor, files_of}
+use Rattle.ver_command.specs.Vsim.{vsim_meaning}
+use Rattle.fir_driver.specs.Program.{DoesFor, files_of, verilog_files_of}
 use Rattle.firc_rows.specs.working.Left.{IsLeft}
 
 -- what never counts a fault has none
@@ -53,6 +54,24 @@ module _ (before after : Outside) (none : NoneRise before after) where
   of_simulation m BadVerilog (inr h) = absurd (no_refusal BadVerilog h.0 (lit< tt))
   of_simulation m TooLong h = inr (inr (inr (inr refl)))
 
+  -- a text that is refused has the number 7
+  not_refused : (s : Status) → s ≡ BadVerilog → code s < 7 ⊎ 7 < code s → ⊥
+  not_refused s same apart = let h : code s ≡ 7 = ap code same in ⊎_elim (λ (low : code s < 7). omega (arith, h, low)) (λ (high : 7 < code s). omega (arith, h, high)) apart
+
+  of_verilog : (m : SimulatedVerilog) (s : Status) → Simulates (vsim_meaning m.with_state m.order) (verilog_files_of m) before after s → IsLeft (Some (vsim m)) (code s)
+  of_verilog m Done h = inl refl
+  of_verilog m Refused (inl h) = absurd (not_refused Refused h.1.0 (inl (lit< tt)))
+  of_verilog m Refused (inr h) = absurd (not_refused Refused h.0 (inl (lit< tt)))
+  of_verilog m Usage (inl h) = absurd (not_refused Usage h.1.0 (inl (lit< tt)))
+  of_verilog m Usage (inr h) = absurd (not_refused Usage h.0 (inl (lit< tt)))
+  of_verilog m Unread h = absurd (none.files h.1.2)
+  of_verilog m Unwritten (inl h) = absurd (none.out h.1)
+  of_verilog m Unwritten (inr h) = absurd (none.err h.1)
+  of_verilog m NoMemory h = inr (inl refl)
+  of_verilog m BadTrace h = inr (inr (inl refl))
+  of_verilog m BadVerilog h = inr (inr (inr (inl refl)))
+  of_verilog m TooLong h = inr (inr (inr (inr refl)))
+
   left : (asked : Option Command) (s : Status) → DoesFor asked before after s → IsLeft asked (code s)
   left None Usage h = inl refl
   left None Unwritten h = absurd (none.err h.1)
@@ -66,6 +85,7 @@ module _ (before after : Outside) (none : NoneRise before after) where
   left (Some (check name)) s h = of_text check_meaning name s h
   left (Some (emit name)) s h = of_text emit_meaning name s h
   left (Some (sim m)) s h = of_simulation m s h
+  left (Some (vsim m)) s h = of_verilog m s h.0
 
 pub sure_left : (asked : Option Command) (before after : Outside) (s : Status) → DoesFor asked before after s
     → before.files.faults ≡ 0 → after.files.faults ≡ 0 → before.out.faults ≡ 0 → after.out.faults ≡ 0 → before.err.faults ≡ 0 → after.err.faults ≡ 0

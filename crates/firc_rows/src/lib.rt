@@ -10,4 +10,8 @@ pub use sure::sure_status;
 #[cfg(test)]
 mod compiles;
 #[cfg(test)]
+mod outcome;
+#[cfg(test)]
 mod runs;
+#[cfg(test)]
+mod verilog_runs;
