@@ -31,11 +31,10 @@ count() {
   fi
 }
 
-# Adds to `texts` on how many Verilog texts the last part found nothing; it skips them where the program
-# has no vsim.
+# Adds to `texts` on how many Verilog texts the last part found nothing.
 count_texts() {
-  counted=$(sed -n 's/^verilog [a-z]*: the same on \([0-9]*\) texts.*/\1/p' "$log" | tail -n 1)
-  texts=$((texts + ${counted:-0}))
+  count "$1" 'verilog [a-z]*: the same on \([0-9]*\) texts.*'
+  texts=$((texts + counted))
 }
 
 rows=0 circuits=0 texts=0 faults=0 names=0 types=0 inferred=0 costs=0 driven=0 skipped=
@@ -71,11 +70,11 @@ if command -v python3 >/dev/null 2>&1; then
   part verilog_rows python3 checks/verilog_rows.py --check
   part verilog_runs python3 checks/verilog_runs.py --check
   part verilog_texts python3 checks/verilog_texts.py 200 400
-  count_texts
+  count_texts verilog_texts
   part verilog_text_forms python3 checks/verilog_texts.py forms 60
-  count_texts
+  count_texts verilog_text_forms
   part verilog_simulated python3 checks/verilog_simulated.py 100
-  count_texts
+  count_texts verilog_simulated
   part verilog_examples python3 checks/verilog_simulated.py examples
   part verilog_tools python3 checks/verilog_tools.py 40
   part definitions python3 checks/definitions.py --check

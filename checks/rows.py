@@ -31,14 +31,6 @@ def built():
     return ROOT / "crates" / "firc" / "out" / "firc"
 
 
-def has_vsim(program):
-    """Whether the program has the command: it then looks for the file, which is not there."""
-    with tempfile.TemporaryDirectory() as folder:
-        done = subprocess.run([os.fsencode(program), "vsim", "none.v", "none"], cwd=folder,
-                              capture_output=True, stdin=subprocess.DEVNULL)
-    return done.returncode != 2
-
-
 def said(program, seconds, row):
     """Status, output and error output of the row's run, in a folder with its files."""
     with tempfile.TemporaryDirectory() as folder:
@@ -103,10 +95,6 @@ def main():
     for row, before in again(rows):
         print(f"{row.place}: {row.name}\n  is the run of {before.place}: {before.name}")
         failed += 1
-    waiting = [row for row in rows if row.words[:1] == [b"vsim"]]
-    if waiting and not has_vsim(program):
-        print(f"rows: {len(waiting)} of vsim wait for the command, which the program does not have")
-        rows = [row for row in rows if row not in waiting]
     with concurrent.futures.ThreadPoolExecutor(os.cpu_count()) as pool:
         told = pool.map(lambda row: differences(program, words.seconds, row), rows)
         for row, differs in zip(rows, told):

@@ -4,7 +4,7 @@ reading of what they mean (verilog_runs.py): of texts and traces made at random,
 of those of examples/verilog, whose lines with the state stand in NAME.expected.
 
 Icarus shows the ticks before the first without a value, and is not asked of some texts
-(verilog_bench.py). What is not there, Icarus or the program's vsim, is left out.
+(verilog_bench.py). Where it is not installed, it is left out.
 
 usage: verilog_simulated.py [--program PATH] [--seed N] COUNT
        verilog_simulated.py [--program PATH] examples [--write]
@@ -22,7 +22,7 @@ from rows import ROOT, built
 from verilog_bench import Bench, shown_by_icarus
 from verilog_runs import Design, ran
 from verilog_text_maker import TextMaker, Writer
-from verilog_texts import SHORTEST, USAGE, Program
+from verilog_texts import Program
 from verilog_traces import BadLine, TraceReader
 
 EXAMPLES = ROOT / "examples" / "verilog"
@@ -80,7 +80,6 @@ class Comparison:
 
     def __init__(self, program, folder):
         self.program, self.folder = program, folder
-        self.with_program = program.said(SHORTEST)[0] != USAGE
         self.with_icarus = verilog_bench.is_installed()
         self.without_icarus = {}
         self.status = {}
@@ -96,12 +95,11 @@ class Comparison:
         """Compares a run with the state, and runs of the orders. Gives the lines of the first."""
         wanted = ran(text, trace, True)
         self.status[wanted[0]] = self.status.get(wanted[0], 0) + 1
-        if self.with_program:
-            self.compare_program(what, text, trace, ["--state"], wanted)
-            for order in orders:
-                ordered = ran(text, trace, True, order)
-                words = ["--state", "--order", str(order)]
-                self.compare_program(what, text, trace, words, ordered)
+        self.compare_program(what, text, trace, ["--state"], wanted)
+        for order in orders:
+            ordered = ran(text, trace, True, order)
+            words = ["--state", "--order", str(order)]
+            self.compare_program(what, text, trace, words, ordered)
         if self.with_icarus and wanted[1]:
             self.compare_icarus(what, text, trace, wanted[1])
         return wanted
@@ -145,8 +143,6 @@ class Comparison:
                 sys.exit(f"of {path.name} the rules show {out.decode()}, status {status} {err!r}")
 
     def told(self):
-        if not self.with_program:
-            yield "verilog simulated: the program has no vsim, so it was not compared"
         if not self.with_icarus:
             yield "verilog simulated: Icarus is not installed, so it was not compared"
         for why, count in sorted(self.without_icarus.items()):

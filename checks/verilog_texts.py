@@ -28,8 +28,6 @@ from verilog_text_changes import Changes
 from verilog_text_maker import TextMaker, Writer
 
 FAULT = 7
-USAGE = 2
-SHORTEST = b"module T();\nendmodule\n"
 
 
 def valid_text(chance):
@@ -106,9 +104,6 @@ def main():
     words = words.parse_args()
     with tempfile.TemporaryDirectory() as folder:
         program = Program((words.program or built()).resolve(), pathlib.Path(folder))
-        if program.said(SHORTEST)[0] == USAGE:
-            print("verilog texts: the program has no vsim, skipped")
-            return
         comparison = Comparison(program, words.seed)
         if words.words[0] == "forms":
             comparison.compare_forms(int(words.words[1]))
