@@ -206,7 +206,7 @@ def words_taken(words):
     parser.add_argument("--state", action="store_true")
     parser.add_argument("--order", type=int)
     parser.add_argument("files", nargs=2)
-    return parser.parse_args(words)
+    return parser.parse_intermixed_args(words)
 
 
 def check():
