@@ -37,7 +37,7 @@ count_texts() {
   texts=$((texts + counted))
 }
 
-rows=0 circuits=0 texts=0 faults=0 names=0 types=0 inferred=0 costs=0 driven=0 skipped=
+rows=0 circuits=0 texts=0 faults=0 names=0 types=0 inferred=0 costs=0 driven=0 changed=0 skipped=
 if command -v python3 >/dev/null 2>&1; then
   part rows python3 checks/rows.py
   count rows 'rows: \([0-9]*\) passed.*'
@@ -77,6 +77,9 @@ if command -v python3 >/dev/null 2>&1; then
   count_texts verilog_simulated
   part verilog_examples python3 checks/verilog_simulated.py examples
   part verilog_tools python3 checks/verilog_tools.py 40
+  part refusals python3 checks/refusals.py 1000
+  count refusals 'refusals: \([0-9]*\) runs .*'
+  changed=$counted
   part definitions python3 checks/definitions.py --check
   part row_trees python3 checks/row_trees.py --check
 else
@@ -93,5 +96,5 @@ echo "checks: $rows rows, $circuits circuits, $faults with faults," \
   "$names circuits of names, $types circuits of types," \
   "$inferred circuits of resets and widths, $costs circuits of costs," \
   "$driven circuits of leaves that are driven, $texts Verilog texts," \
-  "$counted examples: $outcome"
+  "$changed changed texts and fronts, $counted examples: $outcome"
 [ "${#failed[@]}" -eq 0 ]
