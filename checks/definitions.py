@@ -63,6 +63,10 @@ PURPOSES = {
 LEFT_OVER = {
     ("fir_meaning/specs/Lack.antt", "Lack"), ("fir_meaning/specs/Lack.antt", "lack"),
     *(("ver_fault/specs/View.antt", name) for name in ("vcode_of", "vfault_place", "vevidence", "vfault_of")),
+    # what a clause will read with the command `gen`, which is to come
+    *(("fir_gen/specs/GenText.antt", name) for name in (
+        "register_name", "head_lines", "register_line", "first_lines", "step_lines", "steps_text", "last_line",
+        "gen_text")),
 }
 
 

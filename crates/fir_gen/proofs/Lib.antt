@@ -1,0 +1,4 @@
+mod Joined
+pub mod RegisterNames
+mod Steps
+mod Lengths

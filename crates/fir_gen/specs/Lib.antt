@@ -1,0 +1,2 @@
+pub mod GenText
+pub mod working

@@ -1,0 +1,14 @@
+pub mod NoFaults
+pub mod DeclaredRegisters
+pub mod DeclaredKinds
+pub mod BodyWalk
+pub mod KnownRegisters
+pub mod SizedRegisters
+pub mod ClearNames
+pub mod ClearHierarchy
+pub mod ClearTypes
+pub mod JoinedTypes
+pub mod ClearResets
+pub mod LowCosts
+pub mod ClearWidths
+pub mod ClearGroups

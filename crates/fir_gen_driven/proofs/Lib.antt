@@ -1,0 +1,14 @@
+pub mod PlainScopes
+pub mod BodyTails
+pub mod LastDrives
+pub mod GenLeaves
+pub mod GenScenes
+pub mod GenSources
+pub mod DriversClear
+pub mod ClocksClear
+pub mod MemoryClocksClear
+pub mod InitsClear
+pub mod LoopsClear
+pub mod GroupsClear
+pub mod CountedRegisters
+pub mod SourceParts

@@ -1,0 +1,2 @@
+-- What no clause of `run` reads: laws about the circuit.
+pub mod Laws

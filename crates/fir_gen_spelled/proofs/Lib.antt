@@ -1,0 +1,16 @@
+pub mod Chains
+pub mod WordEnds
+pub mod Decimals
+pub mod Parts
+pub mod Rows
+pub mod RowLevels
+pub mod RowTokens
+pub mod Joined
+pub mod GenRows
+pub mod GenTexts
+pub mod GenPlaces
+pub mod Expressions
+pub mod Statements
+pub mod Ports
+pub mod Tails
+pub mod Whole
