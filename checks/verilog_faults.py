@@ -155,7 +155,9 @@ class Checker:
         else:
             is_taken = False
         if not is_taken:
-            self.kind(side.at)
+            # the tree has the places of operands, and none of an operator before one
+            is_unary = len(side.operands) == 1 and side.operator not in ("atom", "read")
+            self.kind(first.at if is_unary else side.at)
 
     def side(self, side, target):
         """A right side, where the target has that width."""
